@@ -1,0 +1,89 @@
+-- Laws of what huts know. Assumes nothing.
+use mathlib.Core.Path.{_≡_, refl, sym, _∙_, ap}
+use mathlib.Core.Bool.{Bool, true, false, cond, _||_}
+use mathlib.Core.List.{List, [], _∷_, _++_}
+use mathlib.Core.Logic.{_⊎_, inl, inr}
+use Prim.Native.Nat.{ℕ}
+use native.Mathlib.Omega.{arith}
+use lib.Dec.{eqb, T, eqb→eq, eqb-refl}
+use Rattle.std.proofs.shelf.Tests.{cases-bool}
+use Rattle.std.proofs.shelf.Ways.{tells}
+use Rattle.calls.specs.Call.{Call, knows, with-either, Holds, none, same, more}
+use Rattle.calls.specs.Law.{Onward, Robust, Swap, Composes, Between, Composed}
+
+pub onward : Onward
+unfolding knows
+onward cs c i k t = grind (arith, tells)
+
+-- a hut knows what it saw itself
+pub knows-own : (cs : List Call) (i : ℕ) → T (knows cs i i)
+unfolding knows
+knows-own [] i = grind (arith, tells)
+knows-own (c ∷ cs) i = onward cs c i i (knows-own cs i)
+
+-- who knows no less before a call knows no less after it
+pub same-call : (ps cs : List Call) (c : Call) (k : ℕ) → ((i : ℕ) → T (knows ps i k) → T (knows cs i k)) → (i : ℕ) → T (knows (c ∷ ps) i k) → T (knows (c ∷ cs) i k)
+unfolding knows
+same-call ps cs c k keep i t = let a = keep (c .a) in let e = keep (c .e) in let h = keep i in grind (arith, tells)
+
+pub robust : Robust
+unfolding knows
+robust ps cs none i k t = rw (← eqb→eq i k t) (knows-own cs i)
+robust ps cs (same {c = c} {ps = ps′} {cs = cs′} h) i k t = same-call ps′ cs′ c k (λ j. robust ps′ cs′ h j k) i t
+robust ps cs (more {c = c} {cs = cs′} h) i k t = onward cs′ c i k (robust ps cs′ h i k t)
+
+pub swap : Swap
+unfolding knows
+swap cs c d p q i k = grind (arith, tells)
+
+-- a call that hut i is not in changes nothing for it
+pub knows-apart : (cs : List Call) (c : Call) (i k : ℕ) → with-either i c ≡ false → knows (c ∷ cs) i k ≡ knows cs i k
+unfolding knows
+knows-apart cs c i k h = grind (arith, tells)
+
+-- both in a call get what either knew
+pub knows-first : (cs : List Call) (c : Call) (i k : ℕ) → with-either i c ≡ true → T (knows cs (c .a) k) → T (knows (c ∷ cs) i k)
+unfolding knows
+knows-first cs c i k h t = grind (arith, tells)
+
+pub knows-second : (cs : List Call) (c : Call) (i k : ℕ) → with-either i c ≡ true → T (knows cs (c .e) k) → T (knows (c ∷ cs) i k)
+unfolding knows
+knows-second cs c i k h t = grind (arith, tells)
+
+-- what i knows of k after the call c, some hut knew before, and whatever that hut knows at such a moment i knows after c
+pub record From (c : Call) (cs : List Call) (i k : ℕ) : Type 0 where
+  pub hut : ℕ
+  pub knew : T (knows cs hut k)
+  pub passes : (ds : List Call) (m : ℕ) → T (knows ds hut m) → T (knows (c ∷ ds) i m)
+
+pub knows-from : (cs : List Call) (c : Call) (i k : ℕ) → T (knows (c ∷ cs) i k) → From c cs i k
+unfolding knows
+knows-from cs c i k t =
+    elim (cases-bool (with-either i c)) [
+      | inr apart ↦ record { hut = i; knew = rw (knows-apart cs c i k apart) at t; passes = λ ds m u. rw (knows-apart ds c i m apart) u }
+      | inl in-it ↦
+          elim (cases-bool (knows cs (c .a) k)) [
+            | inl first ↦ record { hut = c .a; knew = grind arith; passes = λ ds m u. knows-first ds c i m in-it u }
+            | inr other ↦ record { hut = c .e; knew = grind (arith, tells); passes = λ ds m u. knows-second ds c i m in-it u }
+          ]
+    ]
+
+pub composes : Composes
+unfolding knows
+composes [] earlier i k =
+    record {
+      parts = λ t. record { hut = i; after = eqb-refl i; before = t };
+      whole = λ b. rw (eqb→eq i (b .hut) (b .after)) (b .before);
+    }
+composes (c ∷ later) earlier i k =
+    record {
+      parts =
+          λ t.
+          let f : From c (later ++ earlier) i k = knows-from (later ++ earlier) c i k t in
+          let b : Between later earlier (f .hut) k = composes later earlier (f .hut) k .parts (f .knew) in
+          record { hut = b .hut; after = f .passes later (b .hut) (b .after); before = b .before };
+      whole =
+          λ b.
+          let f : From c later i (b .hut) = knows-from later c i (b .hut) (b .after) in
+          f .passes (later ++ earlier) k (composes later earlier (f .hut) k .whole (record { hut = b .hut; after = f .knew; before = b .before }));
+    }

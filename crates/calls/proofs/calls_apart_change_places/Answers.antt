@@ -1,0 +1,5 @@
+use Rattle.calls.proofs.Known.{swap}
+use Rattle.calls.proofs.calls_apart_change_places.Needs as need
+
+pub returns : need.returns
+returns c = swap

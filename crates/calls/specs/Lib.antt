@@ -1,0 +1,4 @@
+pub mod Call
+pub mod Number
+pub mod Law
+pub mod Promise

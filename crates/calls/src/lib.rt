@@ -1,0 +1,39 @@
+// The laws of calls and of what huts know after them. The definitions stand in specs/, the proofs in proofs/.
+// Each function here is a theorem: its contract states it, and the crate is proved only with its proof.
+ghost use Rattle.calls.specs.Law.{Onward, Robust, Swap, Composes};
+ghost use Rattle.calls.specs.Number.{Written};
+
+// Nobody forgets.
+pub fn nobody_forgets() -> u8
+    ensures { λ _. ⌜ Onward ⌝ }
+{
+    0
+}
+
+// Other calls in between do no harm.
+pub fn others_do_no_harm() -> u8
+    ensures { λ _. ⌜ Robust ⌝ }
+{
+    0
+}
+
+// Two neighbouring calls that share no hut may change places.
+pub fn calls_apart_change_places() -> u8
+    ensures { λ _. ⌜ Swap ⌝ }
+{
+    0
+}
+
+// What happens before and after a moment composes.
+pub fn before_and_after_compose() -> u8
+    ensures { λ _. ⌜ Composes ⌝ }
+{
+    0
+}
+
+// Calls are written down as numbers, and read back, without loss.
+pub fn numbers_stand_for_calls() -> u8
+    ensures { λ _. ⌜ Written ⌝ }
+{
+    0
+}
