@@ -13,6 +13,12 @@ unfolding numbers onto
 onto-numbers ds [] xs = refl
 onto-numbers ds (c ∷ cs) xs = rw append-assoc (onto-numbers ds cs (c .a ∷ (c .e ∷ xs)))
 
+-- what was called earlier is written down earlier
+pub numbers-append : (ls cs : List Call) → numbers (ls ++ cs) ≡ numbers cs ++ numbers ls
+unfolding numbers
+numbers-append [] cs = sym (append-nil (numbers cs))
+numbers-append (c ∷ ls) cs = rw (numbers-append ls cs) (append-assoc (numbers cs) (numbers ls) (c .a ∷ (c .e ∷ [])))
+
 pub calls-numbers : (cs : List Call) → calls (numbers cs) ≡ cs
 unfolding onto
 calls-numbers cs = sym (ap (λ xs. onto [] xs) (append-nil (numbers cs))) ∙ (onto-numbers [] cs [] ∙ append-nil cs)

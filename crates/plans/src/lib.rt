@@ -1,0 +1,71 @@
+// Plans: lists of calls that bring everything to everybody.
+ghost use mathlib.Core.Path.{_≡_};
+ghost use mathlib.Core.List.{_++_};
+ghost use Prim.Native.Nat.{_-_, _≤_, _<_};
+ghost use Rattle.std.specs.Of.Vec.{vec-items};
+ghost use Rattle.std.specs.Results.{Cases};
+ghost use Rattle.faults.specs.declared.Fault.the-variants.{Memory};
+ghost use Rattle.calls.specs.Number.{numbers};
+ghost use Rattle.plans.specs.Complete.{hub, plan};
+ghost use Rattle.plans.specs.Answer.{Answers};
+use faults::Fault;
+use faults::FaultFromAlloc;
+use std::alloc::Global;
+
+// Four huts with lines a-b, b-c, c-d and d-a.
+#[derive(Clone, Copy, PartialEq, Eq, Debug)]
+pub struct Square {
+    pub a: u16,
+    pub b: u16,
+    pub c: u16,
+    pub d: u16,
+}
+
+// A plan: its calls, two numbers each, the caller first, in the order in which they are made; and the square in its middle, if there is one.
+#[derive(Drop)]
+pub struct Plan {
+    pub calls: Vec<u16>,
+    pub square: Option<Square>,
+}
+
+// Hut 0 calls huts 4 to n - 1, in this order.
+fn push_hub(calls: &mut Vec<u16>, n: u16) -> Result<(), Fault>
+    requires { ⌜ 4 ≤ n ⌝ }
+    ensures { λ r. ⌜ Cases r (λ _. vec-items (now (calls .exit)) ≡ vec-items (now (calls .entry)) ++ numbers (hub (n - 4))) (λ f. f ≡ Memory) ⌝ }
+{
+    for hut in 4..n {
+        calls.extend_from_slice(&[0, hut])?;
+    }
+    Ok(())
+}
+
+// The calls for fewer than four huts.
+fn few(n: u16) -> &'static [u16]
+    requires { ⌜ n < 4 ⌝ }
+    ensures { λ r. ⌜ now r ≡ numbers (plan n) ⌝ }
+{
+    match n {
+        2 => &[0, 1],
+        3 => &[0, 1, 0, 2, 0, 1],
+        _ => &[],
+    }
+}
+
+// The plan for n huts that can all call each other.
+pub fn for_huts(heap: Global, n: u16) -> Result<Plan, Fault>
+    ensures answers { λ r. ⌜ Answers n r ⌝ }
+{
+    if n == 0 || n > 1024 {
+        return Err(Fault::NoSuchHut);
+    }
+    let mut calls = Vec::new(heap);
+    if n < 4 {
+        calls.extend_from_slice(few(n))?;
+        return Ok(Plan { calls, square: None });
+    }
+    push_hub(&mut calls, n)?;
+    calls.extend_from_slice(&[0, 1, 2, 3, 0, 2, 1, 3])?;
+    push_hub(&mut calls, n)?;
+    let square = Square { a: 0, b: 1, c: 2, d: 3 };
+    Ok(Plan { calls, square: Some(square) })
+}
