@@ -28,11 +28,11 @@ gathers : (m k : ℕ) → k < m → T (knows (hub m) 0 (k + 4))
 unfolding hub
 gathers zero k h = absurd (omega arith)
 gathers (suc m) k h =
-    elim (cases-lt k m)
-    [ inl lt ↦ onward (hub m) (call 0 (m + 4)) 0 (k + 4) (gathers m k lt)
-    | inr ge ↦
-      let e : k ≡ m = omega arith in
-      rw e (knows-second (hub m) (call 0 (m + 4)) 0 (m + 4) (grind (arith, tells)) (knows-own (hub m) (m + 4)))
+    elim (cases-lt k m) [
+      | inl lt ↦ onward (hub m) (call 0 (m + 4)) 0 (k + 4) (gathers m k lt)
+      | inr ge ↦
+          let e : k ≡ m = omega arith in
+          rw e (knows-second (hub m) (call 0 (m + 4)) 0 (m + 4) (grind (arith, tells)) (knows-own (hub m) (m + 4)))
     ]
 
 -- hut 0 has told each hut that it called what it knew
@@ -40,11 +40,11 @@ spreads : (cs : List Call) (m i k : ℕ) → i < m → T (knows cs 0 k) → T (k
 unfolding hub
 spreads cs zero i k h t = absurd (omega arith)
 spreads cs (suc m) i k h t =
-    elim (cases-lt i m)
-    [ inl lt ↦ onward (hub m ++ cs) (call 0 (m + 4)) (i + 4) k (spreads cs m i k lt t)
-    | inr ge ↦
-      let e : i ≡ m = omega arith in
-      rw e (knows-first (hub m ++ cs) (call 0 (m + 4)) (m + 4) k (grind (arith, tells)) (keeps (hub m) cs 0 k t))
+    elim (cases-lt i m) [
+      | inl lt ↦ onward (hub m ++ cs) (call 0 (m + 4)) (i + 4) k (spreads cs m i k lt t)
+      | inr ge ↦
+          let e : i ≡ m = omega arith in
+          rw e (knows-first (hub m ++ cs) (call 0 (m + 4)) (m + 4) k (grind (arith, tells)) (keeps (hub m) cs 0 k t))
     ]
 
 -- once the four have gone round, each of them knows what any of them knew
@@ -55,11 +55,11 @@ rounds cs i j k p q t = grind (arith, tells)
 -- after the round each of the four knows what each hut saw
 four-know : (m i k : ℕ) → i < 4 → k < m + 4 → T (knows (round ++ hub m) i k)
 four-know m i k p q =
-    elim (cases-lt k 4)
-    [ inl low ↦ rounds (hub m) i k k p low (knows-own (hub m) k)
-    | inr high ↦
-      let e : (k - 4) + 4 ≡ k = omega arith in
-      rounds (hub m) i 0 k p (omega arith) (rw e at (gathers m (k - 4) (omega arith)))
+    elim (cases-lt k 4) [
+      | inl low ↦ rounds (hub m) i k k p low (knows-own (hub m) k)
+      | inr high ↦
+          let e : (k - 4) + 4 ≡ k = omega arith in
+          rounds (hub m) i 0 k p (omega arith) (rw e at (gathers m (k - 4) (omega arith)))
     ]
 
 pub all-know : (n : ℕ) → AllKnow n (plan n)
@@ -69,11 +69,11 @@ all-know (suc zero) i k p q = grind (arith, tells)
 all-know (suc (suc zero)) i k p q = grind (arith, tells)
 all-know (suc (suc (suc zero))) i k p q = grind (arith, tells)
 all-know (suc (suc (suc (suc m)))) i k p q =
-    elim (cases-lt i 4)
-    [ inl low ↦ keeps (hub m) (round ++ hub m) i k (four-know m i k low (omega arith))
-    | inr high ↦
-      let e : (i - 4) + 4 ≡ i = omega arith in
-      rw e at (spreads (round ++ hub m) m (i - 4) k (omega arith) (four-know m 0 k (omega arith) (omega arith)))
+    elim (cases-lt i 4) [
+      | inl low ↦ keeps (hub m) (round ++ hub m) i k (four-know m i k low (omega arith))
+      | inr high ↦
+          let e : (i - 4) + 4 ≡ i = omega arith in
+          rw e at (spreads (round ++ hub m) m (i - 4) k (omega arith) (four-know m 0 k (omega arith) (omega arith)))
     ]
 
 pub all-know-with-others : (n : ℕ) (cs : List Call) → Holds (plan n) cs → AllKnow n cs
@@ -155,5 +155,5 @@ planned n p calls square =
       with-others = all-know-with-others n;
       count = length-plan n;
       count-few = length-plan-few n;
-      square = square
+      square = square;
     }

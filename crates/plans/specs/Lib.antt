@@ -1,2 +1,3 @@
 pub mod Complete
 pub mod Answer
+pub mod Text

@@ -2,15 +2,20 @@
 ghost use mathlib.Core.Path.{_≡_};
 ghost use mathlib.Core.List.{_++_};
 ghost use Prim.Native.Nat.{_-_, _≤_, _<_};
+ghost use lib.Chars.{codes};
 ghost use Rattle.std.specs.Of.Vec.{vec-items};
 ghost use Rattle.std.specs.Results.{Cases};
 ghost use Rattle.faults.specs.declared.Fault.the-variants.{Memory};
 ghost use Rattle.calls.specs.Number.{numbers};
 ghost use Rattle.plans.specs.Complete.{hub, plan};
 ghost use Rattle.plans.specs.Answer.{Answers};
+ghost use Rattle.plans.specs.Text.{callLines, squareShown, middleShown, planShown};
+ghost use Rattle.std.specs.Written.{Prints};
+ghost use Rattle.std.specs.declared.option.Option.the-variants.{Some};
 use faults::Fault;
 use faults::FaultFromAlloc;
 use std::alloc::Global;
+use std::fmt;
 
 // Four huts with lines a-b, b-c, c-d and d-a.
 #[derive(Clone, Copy, PartialEq, Eq, Debug)]
@@ -26,6 +31,49 @@ pub struct Square {
 pub struct Plan {
     pub calls: Vec<u16>,
     pub square: Option<Square>,
+}
+
+// A call a line, the caller first.
+fn write_calls<W: fmt::Write>(calls: &[u16], f: &mut fmt::Formatter<W>) -> fmt::Result
+    ensures { λ r. ⌜ Prints (W·Write .took) (now (f .entry)) r (callLines (now (calls .entry))) (now (f .exit)) ⌝ }
+{
+    let mut left = calls;
+    while let [a, e, rest @ ..] = left {
+        writeln!(f, "{a} {e}")?;
+        left = rest;
+    }
+    Ok(())
+}
+
+pub impl fmt::Display for Square as SquareDisplay {
+    ghost shown = { λ s. Some (squareShown s) };
+
+    fn fmt<W: fmt::Write>(&self, f: &mut fmt::Formatter<W>) -> fmt::Result {
+        let Square { a, b, c, d } = *self;
+        write!(f, "square {a} {b} {c} {d}")
+    }
+}
+
+// The square, or that there is none.
+fn write_square<W: fmt::Write>(square: Option<Square>, f: &mut fmt::Formatter<W>) -> fmt::Result
+    ensures { λ r. ⌜ Prints (W·Write .took) (now (f .entry)) r (middleShown square ++ codes "\n") (now (f .exit)) ⌝ }
+{
+    match square {
+        Some(square) => writeln!(f, "{square}"),
+        None => writeln!(f, "no square"),
+    }
+}
+
+// The calls, the square and the number of calls, each on a line of its own.
+pub impl fmt::Display for Plan as PlanDisplay {
+    ghost shown = { λ p. Some (planShown p) };
+
+    fn fmt<W: fmt::Write>(&self, f: &mut fmt::Formatter<W>) -> fmt::Result {
+        write_calls(self.calls.as_slice(), f)?;
+        write_square(self.square, f)?;
+        let count = self.calls.len() / 2;
+        writeln!(f, "{count} calls")
+    }
 }
 
 // Hut 0 calls huts 4 to n - 1, in this order.
@@ -61,11 +109,22 @@ pub fn for_huts(heap: Global, n: u16) -> Result<Plan, Fault>
     let mut calls = Vec::new(heap);
     if n < 4 {
         calls.extend_from_slice(few(n))?;
-        return Ok(Plan { calls, square: None });
+        return Ok(Plan {
+            calls,
+            square: None,
+        });
     }
     push_hub(&mut calls, n)?;
     calls.extend_from_slice(&[0, 1, 2, 3, 0, 2, 1, 3])?;
     push_hub(&mut calls, n)?;
-    let square = Square { a: 0, b: 1, c: 2, d: 3 };
-    Ok(Plan { calls, square: Some(square) })
+    let square = Square {
+        a: 0,
+        b: 1,
+        c: 2,
+        d: 3,
+    };
+    Ok(Plan {
+        calls,
+        square: Some(square),
+    })
 }

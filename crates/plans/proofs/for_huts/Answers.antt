@@ -10,8 +10,8 @@ returns-then-n-lt4 c =
     record {
       answers = (
         grind (arith, tells),
-        planned (c .args .n) _ (numbers-few (c .args .n) _ _ _ (c .new-calls .ensures .items) (c .few .ensures) (c .in-Continue-extend-from-slice .ensures tt .items)) (grind (arith, tells))
-      )
+        planned (c .args .n) _ (numbers-few (c .args .n) _ _ _ (c .new-calls .ensures .items) (c .few .ensures) (c .in-Continue-extend-from-slice .ensures tt .items)) (grind (arith, tells)),
+      );
     }
 
 pub returns : need.returns
@@ -21,9 +21,9 @@ returns c =
       answers = (
         grind (arith, tells),
         planned
-          (c .args .n)
-          _
-          (numbers-plan (c .args .n) _ _ _ _ (omega arith) (c .new-calls .ensures .items) (c .in-Continue-push-hub .ensures tt) (c .in-Continue-extend-from-slice-2 .ensures tt .items) (c .in-Continue-push-hub-2 .ensures tt))
-          (grind (arith, tells))
-      )
+            (c .args .n)
+            _
+            (numbers-plan (c .args .n) _ _ _ _ (omega arith) (c .new-calls .ensures .items) (c .in-Continue-push-hub .ensures tt) (c .in-Continue-extend-from-slice-2 .ensures tt .items) (c .in-Continue-push-hub-2 .ensures tt))
+            (grind (arith, tells)),
+      );
     }
