@@ -1,9 +1,9 @@
 -- Calls as numbers: written and read back. Assumes nothing.
 use mathlib.Core.Path.{_≡_, refl, sym, _∙_, ap}
 use mathlib.Core.List.{List, [], _∷_, _++_, append-assoc, append-nil}
-use Prim.Native.Nat.{ℕ, _%_}
+use Prim.Native.Nat.{ℕ, _*_, _%_}
 use native.Mathlib.Omega.{arith}
-use lib.ListN.{length}
+use lib.ListN.{length, length-append}
 use Rattle.calls.specs.Call.{Call, call}
 use Rattle.calls.specs.Number.{numbers, onto, calls, Written}
 
@@ -18,6 +18,12 @@ pub numbers-append : (ls cs : List Call) → numbers (ls ++ cs) ≡ numbers cs +
 unfolding numbers
 numbers-append [] cs = sym (append-nil (numbers cs))
 numbers-append (c ∷ ls) cs = rw (numbers-append ls cs) (append-assoc (numbers cs) (numbers ls) (c .a ∷ (c .e ∷ [])))
+
+-- two numbers for each call
+pub length-numbers : (cs : List Call) → length (numbers cs) ≡ 2 * length cs
+unfolding numbers
+length-numbers [] = refl
+length-numbers (c ∷ cs) = let h = length-numbers cs in simp length-append (omega arith)
 
 pub calls-numbers : (cs : List Call) → calls (numbers cs) ≡ cs
 unfolding onto

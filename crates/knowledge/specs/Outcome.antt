@@ -24,11 +24,12 @@ use Rattle.std.specs.Written.{decimal}
 use Rattle.knowledge.specs.declared.Outcome.{Outcome}
 use Rattle.knowledge.specs.declared.Outcome.the-variants.{Complete, Lacks}
 
+-- every number is that of one of n huts
 abbrev pub below : ℕ → List ℕ → Bool
 below n [] = true
 below n (x ∷ xs) = ltb x n && below n xs
 
--- no huts or more than 1,024; a number that is alone; a hut that isn't there
+-- no huts or more than 1,024; else a number that is left alone; else a hut that isn't there
 abbrev pub refusal : ℕ → List ℕ → Option Fault
 refusal n xs = cond (eqb n 0 || ltb 1024 n) (Some NoSuchHut) (cond (eqb (length xs % 2) 1) (Some Malformed) (cond (below n xs) None (Some NoSuchHut)))
 

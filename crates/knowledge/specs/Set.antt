@@ -12,7 +12,7 @@ use lib.ListN.{getD}
 unfoldable pub has : List ℕ → ℕ → Bool
 has ws k = eqb (getD ws (k / 64) 0 / 2 ^ (k % 64) % 2) 1
 
--- the huts below r are in the set, and r is not, unless it is n
+-- every hut below r is in the set, and r is not, unless it is n
 pub record Lowest (n : ℕ) (ws : List ℕ) (r : ℕ) : Type 0 where
   pub within : r ≤ n
   pub before : (k : ℕ) → k < r → T (has ws k)

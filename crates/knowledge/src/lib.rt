@@ -2,7 +2,7 @@
 ghost use mathlib.Core.Bool.{_||_};
 ghost use mathlib.Core.List.{List, [], _∷_};
 ghost use mathlib.Core.Path.{_≡_};
-ghost use Prim.Native.Nat.{ℕ, _*_, _%_, _<_, _≤_};
+ghost use Prim.Native.Nat.{ℕ, _-_, _*_, _%_, _^_, _<_, _≤_};
 ghost use Rattle.calls.specs.Call.{Call, call};
 ghost use Rattle.faults.specs.declared.Fault.the-variants.{Memory};
 ghost use Rattle.knowledge.specs.Outcome.{below, refusal, Says, Tells, shownOf};
@@ -12,7 +12,7 @@ ghost use Rattle.std.specs.Of.Vec.{vec-items};
 ghost use Rattle.std.specs.Results.{Cases};
 ghost use Rattle.std.specs.declared.option.Option.the-variants.{Some};
 ghost use lib.Dec.{T, eqb};
-ghost use lib.ListN.{length};
+ghost use lib.ListN.{length, getD};
 use faults::Fault;
 use faults::FaultFromAlloc;
 use faults::FaultFromRefused;
@@ -59,6 +59,7 @@ impl HutSet {
     fn full_words(&self) -> usize
         ensures within { λ r. ⌜ r ≤ 16 ⌝ }
         ensures full { λ r. ⌜ ((k : ℕ) → k < 64 * r → T (has (now (self .entry) .words) k)) ⌝ }
+        ensures next { λ r. ⌜ (r < 16 → getD (now (self .entry) .words) r 0 ≡ 2 ^ 64 - 1 → ⊥) ⌝ }
     {
         for i in 0..16 {
             if self.words[i] != u64::MAX {
@@ -118,7 +119,7 @@ fn start(heap: Global, n: usize) -> Result<Vec<HutSet>, Fault>
 fn join(rows: &mut [HutSet], a: usize, e: usize)
     requires caller { ⌜ a < length (now rows) ⌝ }
     requires called { ⌜ e < length (now rows) ⌝ }
-    ensures stands { λ _. ⌜ ((cs : List Call) → Stands (length (now (rows .entry))) (now (rows .entry)) cs → Stands (length (now (rows .entry))) (now (rows .exit)) (call a e ∷ cs)) ⌝ }
+    ensures stands { λ _. ⌜ ((n : ℕ) (cs : List Call) → Stands n (now (rows .entry)) cs → Stands n (now (rows .exit)) (call a e ∷ cs)) ⌝ }
 {
     let both = rows[a].union(&rows[e]);
     rows[a] = both;

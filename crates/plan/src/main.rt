@@ -1,0 +1,172 @@
+// Prints the plan of calls for a number of huts that can all call each other.
+ghost use mathlib.Core.Path.{_≡_};
+ghost use Rattle.std.specs.Of.String.{string-bytes};
+ghost use Rattle.plan.specs.Argument.{numberIn};
+ghost use Rattle.plan.specs.Printed.{Prints};
+use faults::Fault;
+use faults::FaultDisplay;
+use faults::FaultFromAlloc;
+use plans::PlanDisplay;
+use std::alloc::Global;
+use std::env;
+use std::fmt;
+use std::io;
+use std::io::ErrorKind;
+use std::io::Write;
+
+const HELP: &str = "usage: plan HUTS
+       plan --help | --version
+
+Prints the plan of calls for HUTS huts, 1 to 1024, that can all call each other:
+after these calls, in their order, every hut knows what every hut saw.
+Each line is a call, the caller first: '0 4' says that hut 0 calls hut 4. Then
+comes 'square A B C D', the four huts in the middle, or 'no square' below four
+huts, and last the number of calls.
+
+Example: 'plan 200' prints 396 calls, then 'square 0 1 2 3', then '396 calls'.
+
+Status 0: done. Status 1: the number was refused, or the command line is wrong;
+then nothing is printed on standard output.
+";
+
+const VERSION: &str = "plan 0.1.0, proved with rattle-kit-8b logic 7f726aa041520687
+";
+
+// What the command line asks for.
+#[derive(Drop)]
+enum Request<'a> {
+    Help,
+    Version,
+    // The number of huts, as it stands there.
+    Huts(&'a str),
+}
+
+// Why nothing is printed on standard output.
+#[derive(Drop)]
+enum Failure<'a> {
+    Missing,
+    Option(&'a str),
+    Extra(&'a str),
+    NoNumber(&'a str),
+    Refused(&'a str, Fault),
+}
+
+impl fmt::Display for Failure<'_> as FailureDisplay {
+    fn fmt<W: fmt::Write>(&self, f: &mut fmt::Formatter<W>) -> fmt::Result {
+        match self {
+            Failure::Missing => f.write_str("the number of huts is missing")?,
+            Failure::Option(word) => write!(f, "unknown option '{word}'")?,
+            Failure::Extra(word) => write!(f, "one argument too many: '{word}'")?,
+            Failure::NoNumber(word) => write!(f, "'{word}' is no number of huts")?,
+            Failure::Refused(word, fault) => return write!(f, "{word}: {fault}"),
+        }
+        f.write_str("\nusage: plan HUTS\nTry 'plan --help' for more information.")
+    }
+}
+
+// The number that a word of digits stands for, and 65,535 if that is larger; no other word stands for a number.
+fn number(word: &[u8]) -> Option<u16>
+    ensures { λ r. ⌜ r ≡ numberIn (now (word .entry)) ⌝ }
+{
+    if word.is_empty() {
+        return None;
+    }
+    let mut n: u16 = 0;
+    for d in word {
+        if *d < b'0' || *d > b'9' {
+            return None;
+        }
+        n = n.saturating_mul(10).saturating_add(u16::from(*d - b'0'));
+    }
+    Some(n)
+}
+
+// The request of the words after the program's name. '--' ends the options.
+fn asked<'a>(words: &'a [String]) -> Result<Request<'a>, Failure<'a>> {
+    let mut huts = None;
+    let mut options = true;
+    for word in words {
+        let word = word.as_str();
+        match word {
+            "--help" if options => return Ok(Request::Help),
+            "--version" if options => return Ok(Request::Version),
+            "--" if options => options = false,
+            _ if options && word.starts_with('-') => return Err(Failure::Option(word)),
+            _ if huts.is_some() => return Err(Failure::Extra(word)),
+            _ => huts = Some(word),
+        }
+    }
+    match huts {
+        Some(word) => Ok(Request::Huts(word)),
+        None => Err(Failure::Missing),
+    }
+}
+
+// The plan for n huts as it is printed.
+fn text(heap: Global, n: u16) -> Result<String, Fault>
+    ensures prints { λ r. ⌜ Prints n r ⌝ }
+{
+    let plan = plans::for_huts(heap, n)?;
+    Ok(plan.to_string(heap)?)
+}
+
+// What is printed on standard output.
+fn answer<'a>(heap: Global, words: &'a [String]) -> Result<String, Failure<'a>> {
+    let word = match asked(words)? {
+        Request::Help => return said(heap, HELP),
+        Request::Version => return said(heap, VERSION),
+        Request::Huts(word) => word,
+    };
+    let Some(n) = number(word.as_bytes()) else {
+        return Err(Failure::NoNumber(word));
+    };
+    match text(heap, n) {
+        Ok(text) => Ok(text),
+        Err(fault) => Err(Failure::Refused(word, fault)),
+    }
+}
+
+fn said<'a>(heap: Global, words: &'a str) -> Result<String, Failure<'a>> {
+    match String::from_str(heap, words) {
+        Ok(text) => Ok(text),
+        Err(_) => Err(Failure::Refused("--help", Fault::Memory)),
+    }
+}
+
+// Writes the whole text at once. A reader that has seen enough is no failure.
+fn deliver(rt: &LibcRuntime, text: &str) -> io::Result<()> {
+    match rt.stdout().write_all(text.as_bytes()) {
+        Err(e) if e.kind() == ErrorKind::BrokenPipe => Ok(()),
+        done => done,
+    }
+}
+
+fn arguments(rt: &LibcRuntime) -> io::Result<Vec<String>> {
+    let mut words = Vec::new(rt.alloc());
+    for word in env::args(rt)?.skip(1) {
+        words.push(word)?;
+    }
+    Ok(words)
+}
+
+fn main(rt: LibcRuntime) -> Result<(), ()> {
+    let words = match arguments(&rt) {
+        Ok(words) => words,
+        Err(e) => {
+            let _ = eprintln!(rt, "plan: the arguments can't be read: {e}");
+            return Err(());
+        }
+    };
+    let text = match answer(rt.alloc(), words.as_slice()) {
+        Ok(text) => text,
+        Err(failure) => {
+            let _ = eprintln!(rt, "plan: {failure}");
+            return Err(());
+        }
+    };
+    if let Err(e) = deliver(&rt, text.as_str()) {
+        let _ = eprintln!(rt, "plan: {e}");
+        return Err(());
+    }
+    Ok(())
+}
