@@ -7,7 +7,7 @@ use Prim.Native.Nat.{ℕ, zero, suc, _+_, _*_, _-_, _≤_, _<_}
 use native.Mathlib.Omega.{arith}
 use lib.Dec.{eqb, ltb, T, eqb→eq, eqb-refl}
 use lib.ListN.{length, length-append}
-use Rattle.std.proofs.shelf.Tests.{cases-bool, cases-lt, cases-eq}
+use Rattle.std.proofs.shelf.Tests.{cases-lt, cond-false}
 use Rattle.std.proofs.shelf.Ways.{tells}
 use Rattle.calls.specs.Call.{Call, call, knows, among, with-either, AllKnow, Holds}
 use Rattle.calls.proofs.Known.{onward, knows-own, knows-first, knows-second, robust}
@@ -15,7 +15,7 @@ use Rattle.calls.specs.Number.{numbers}
 use Rattle.calls.proofs.Numbers.{numbers-append}
 use Rattle.std.specs.Of.Vec.{vec-items}
 use Rattle.plans.specs.declared.Plan.{Plan}
-use Rattle.plans.specs.Complete.{hub, round, plan}
+use Rattle.plans.specs.Complete.{hub, round, plan, written}
 use Rattle.plans.specs.Answer.{Planned, middle}
 
 -- later calls take nothing away
@@ -115,20 +115,17 @@ length-plan-few (suc (suc zero)) h l = refl
 length-plan-few (suc (suc (suc zero))) h l = refl
 length-plan-few (suc (suc (suc (suc m)))) h l = absurd (omega arith)
 
--- the plan's calls as they are written down one after the other: hub, round and hub, after nothing
-pub numbers-plan : (n : ℕ) (w x y z : List ℕ) → 4 ≤ n → w ≡ [] → x ≡ w ++ numbers (hub (n - 4)) → y ≡ x ++ numbers round → z ≡ y ++ numbers (hub (n - 4)) → z ≡ numbers (plan n)
-unfolding plan
-numbers-plan zero w x y z h p q r s = absurd (omega arith)
-numbers-plan (suc zero) w x y z h p q r s = absurd (omega arith)
-numbers-plan (suc (suc zero)) w x y z h p q r s = absurd (omega arith)
-numbers-plan (suc (suc (suc zero))) w x y z h p q r s = absurd (omega arith)
-numbers-plan (suc (suc (suc (suc m)))) w x y z h p q r s =
+-- what is written down is the plan
+pub written-plan : (n : ℕ) → written n ≡ numbers (plan n)
+unfolding plan numbers
+written-plan zero = refl
+written-plan (suc zero) = refl
+written-plan (suc (suc zero)) = refl
+written-plan (suc (suc (suc zero))) = refl
+written-plan (suc (suc (suc (suc m)))) =
     let e : suc (suc (suc (suc m))) - 4 ≡ m = omega arith in
-    rw (s, r, q, p, e) (simp numbers-append)
-
--- the same of a plan that is written down at once
-pub numbers-few : (n : ℕ) (w x y : List ℕ) → w ≡ [] → x ≡ numbers (plan n) → y ≡ w ++ x → y ≡ numbers (plan n)
-numbers-few n w x y p q r = rw (r, p, q)
+    let four : ltb (suc (suc (suc (suc m)))) 4 ≡ false = grind (arith, tells) in
+    cond-false (ltb (suc (suc (suc (suc m)))) 4) _ _ four ∙ rw e (sym (numbers-append (hub m) (round ++ hub m) ∙ ap (λ xs. xs ++ numbers (hub m)) (numbers-append round (hub m))))
 
 -- one hut calls nobody
 pub numbers-none : (n : ℕ) → n < 2 → [] ≡ numbers (plan n)
@@ -146,10 +143,10 @@ numbers-hub-more h l =
     rw (e, f)
 
 -- whoever has the prescribed calls and the middle has all that is promised
-pub planned : (n : ℕ) (p : Plan) → vec-items (p .calls) ≡ numbers (plan n) → p .square ≡ middle n → Planned n p
+pub planned : (n : ℕ) (p : Plan) → vec-items (p .calls) ≡ written n → p .square ≡ middle n → Planned n p
 planned n p calls square =
     record {
-      listed = calls;
+      listed = calls ∙ written-plan n;
       apart = among-plan n;
       all-know = all-know n;
       with-others = all-know-with-others n;

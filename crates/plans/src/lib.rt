@@ -7,8 +7,8 @@ ghost use Rattle.std.specs.Of.Vec.{vec-items};
 ghost use Rattle.std.specs.Results.{Cases};
 ghost use Rattle.faults.specs.declared.Fault.the-variants.{Memory};
 ghost use Rattle.calls.specs.Number.{numbers};
-ghost use Rattle.plans.specs.Complete.{hub, plan};
-ghost use Rattle.plans.specs.Answer.{Answers};
+ghost use Rattle.plans.specs.Complete.{hub, plan, written};
+ghost use Rattle.plans.specs.Answer.{Answers, middle};
 ghost use Rattle.plans.specs.Text.{callLines, squareShown, middleShown, planShown};
 ghost use Rattle.std.specs.Written.{Prints};
 ghost use Rattle.std.specs.declared.option.Option.the-variants.{Some};
@@ -99,6 +99,31 @@ fn few(n: u16) -> &'static [u16]
     }
 }
 
+// The calls of the plan for n huts, written down one after the other.
+fn prescribed(heap: Global, n: u16) -> Result<Vec<u16>, Fault>
+    ensures { λ r. ⌜ Cases r (λ v. vec-items v ≡ written n) (λ f. f ≡ Memory) ⌝ }
+{
+    let mut calls = Vec::new(heap);
+    if n < 4 {
+        calls.extend_from_slice(few(n))?;
+        return Ok(calls);
+    }
+    push_hub(&mut calls, n)?;
+    calls.extend_from_slice(&[0, 1, 2, 3, 0, 2, 1, 3])?;
+    push_hub(&mut calls, n)?;
+    Ok(calls)
+}
+
+// The smallest square, where all lines are there.
+fn smallest_square(n: u16) -> Option<Square>
+    ensures { λ r. ⌜ r ≡ middle n ⌝ }
+{
+    if n < 4 {
+        return None;
+    }
+    Some(Square { a: 0, b: 1, c: 2, d: 3 })
+}
+
 // The plan for n huts that can all call each other.
 pub fn for_huts(heap: Global, n: u16) -> Result<Plan, Fault>
     ensures answers { λ r. ⌜ Answers n r ⌝ }
@@ -106,25 +131,7 @@ pub fn for_huts(heap: Global, n: u16) -> Result<Plan, Fault>
     if n == 0 || n > 1024 {
         return Err(Fault::NoSuchHut);
     }
-    let mut calls = Vec::new(heap);
-    if n < 4 {
-        calls.extend_from_slice(few(n))?;
-        return Ok(Plan {
-            calls,
-            square: None,
-        });
-    }
-    push_hub(&mut calls, n)?;
-    calls.extend_from_slice(&[0, 1, 2, 3, 0, 2, 1, 3])?;
-    push_hub(&mut calls, n)?;
-    let square = Square {
-        a: 0,
-        b: 1,
-        c: 2,
-        d: 3,
-    };
-    Ok(Plan {
-        calls,
-        square: Some(square),
-    })
+    let calls = prescribed(heap, n)?;
+    let square = smallest_square(n);
+    Ok(Plan { calls, square })
 }
