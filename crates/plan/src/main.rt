@@ -170,3 +170,74 @@ fn main(rt: LibcRuntime) -> Result<(), ()> {
     }
     Ok(())
 }
+
+#[cfg(test)]
+mod tests {
+    use super::*;
+    use std::alloc::AllocError;
+    use std::test::*;
+
+    const WRONG: &str = "\nusage: plan HUTS\nTry 'plan --help' for more information.";
+
+    // What a command line, its words parted by single spaces, comes to.
+    fn told(heap: Global, line: &str) -> Result<String, AllocError> {
+        let mut words = Vec::new(heap);
+        for word in line.split(' ') {
+            words.push(String::from_str(heap, word)?)?;
+        }
+        match answer(heap, words.as_slice()) {
+            Ok(text) => Ok(text),
+            Err(failure) => format!(heap, "plan: {failure}"),
+        }
+    }
+
+    #[test]
+    fn plans_are_printed(rt: LibcRuntime) -> Result<(), Fail> {
+        let heap = rt.alloc();
+        let table = [
+            ("1", "no square\n0 calls\n"),
+            ("2", "0 1\nno square\n1 calls\n"),
+            ("-- 3", "0 1\n0 2\n0 1\nno square\n3 calls\n"),
+            (
+                "05",
+                "0 4\n0 1\n2 3\n0 2\n1 3\n0 4\nsquare 0 1 2 3\n6 calls\n",
+            ),
+            ("1024 --help", HELP),
+            ("--version", VERSION),
+        ];
+        for (line, text) in table {
+            check_eq(told(heap, line)?.as_str(), text)?;
+        }
+        Ok(())
+    }
+
+    #[test]
+    fn wrong_words_are_refused(rt: LibcRuntime) -> Result<(), Fail> {
+        let heap = rt.alloc();
+        let table = [
+            ("", "plan: '' is no number of huts"),
+            ("4x", "plan: '4x' is no number of huts"),
+            ("-4", "plan: unknown option '-4'"),
+            ("4 5", "plan: one argument too many: '5'"),
+            ("--", "plan: the number of huts is missing"),
+        ];
+        for (line, reason) in table {
+            let text = format!(heap, "{reason}{WRONG}")?;
+            check_eq(told(heap, line)?.as_str(), text.as_str())?;
+        }
+        Ok(())
+    }
+
+    #[test]
+    fn wrong_numbers_are_refused(rt: LibcRuntime) -> Result<(), Fail> {
+        let heap = rt.alloc();
+        for word in ["0", "1025", "65536", "18446744073709551616"] {
+            let text = format!(
+                heap,
+                "plan: {word}: refused 2: no huts, more than 1024, or a hut that isn't there"
+            )?;
+            check_eq(told(heap, word)?.as_str(), text.as_str())?;
+        }
+        Ok(())
+    }
+}

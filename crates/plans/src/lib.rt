@@ -121,7 +121,12 @@ fn smallest_square(n: u16) -> Option<Square>
     if n < 4 {
         return None;
     }
-    Some(Square { a: 0, b: 1, c: 2, d: 3 })
+    Some(Square {
+        a: 0,
+        b: 1,
+        c: 2,
+        d: 3,
+    })
 }
 
 // The plan for n huts that can all call each other.
