@@ -1,4 +1,5 @@
 -- Huts that call each other, and what they know. Assumes nothing.
+--     hutCount n       n is a number of huts that there can be: 1 to 1,024, numbered from 0
 --     Call             a call between two huts: hut a calls hut e
 --     knows cs i k     hut i knows what hut k saw, after the calls cs
 --     AllKnow n cs     each of the huts 0 to n - 1 knows what each of them saw: the list does it
@@ -8,7 +9,10 @@
 use mathlib.Core.Bool.{Bool, true, cond, _&&_, _||_, not}
 use mathlib.Core.List.{List, [], _∷_}
 use Prim.Native.Nat.{ℕ, _<_}
-use lib.Dec.{eqb, ltb, T}
+use lib.Dec.{eqb, leb, ltb, T}
+
+abbrev pub hutCount : ℕ → Bool
+hutCount n = leb 1 n && leb n 1024
 
 -- hut a calls hut e
 pub record Call : Type 0 where

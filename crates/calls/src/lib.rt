@@ -1,7 +1,19 @@
-// The laws of calls and of what huts know after them. The definitions stand in specs/, the proofs in proofs/.
-// Each function here is a theorem: its contract states it, and the crate is proved only with its proof.
+// Calls, and the laws of what huts know after them. The definitions stand in specs/, the proofs in proofs/.
+// A function that only returns 0 is a theorem: its contract states it, and the crate is proved only with its proof.
+ghost use mathlib.Core.Path.{_≡_};
+ghost use Rattle.calls.specs.Call.{hutCount};
 ghost use Rattle.calls.specs.Law.{Onward, Robust, Swap, Composes};
 ghost use Rattle.calls.specs.Number.{Written};
+
+// The most huts that there can be.
+pub const MOST_HUTS: u16 = 1024;
+
+// Whether there can be n huts.
+pub fn is_hut_count(n: u16) -> bool
+    ensures { λ r. ⌜ r ≡ hutCount n ⌝ }
+{
+    1 <= n && n <= MOST_HUTS
+}
 
 // Nobody forgets.
 pub fn nobody_forgets() -> u8

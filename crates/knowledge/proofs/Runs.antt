@@ -1,49 +1,23 @@
 -- The calls of a list made one after the other: what has been reached after the first of them. Assumes nothing.
-use mathlib.Core.Path.{_≡_, refl, _∙_}
-use mathlib.Core.List.{List, [], _∷_, _++_, append-assoc}
+use mathlib.Core.Path.{_≡_, refl}
+use mathlib.Core.List.{List, [], _∷_}
 use mathlib.Core.Logic.{inl, inr}
 use Prim.Native.Nat.{ℕ, _+_, _-_, _*_, _%_, _<_, _≤_}
-use native.Mathlib.Nat.{add-zero}
 use native.Mathlib.Omega.{arith}
 use borrow.Author.Count.{below-more}
 use lib.Dec.{T}
 use lib.ListN.{length, getD, take, drop}
-use Rattle.std.proofs.shelf.Lists.{getD-drop, length-take, length-drop, take-more, take-all, drop-drop}
+use Rattle.std.proofs.shelf.Lists.{length-drop, take-all, drop-drop}
 use Rattle.std.proofs.shelf.Tests.{cases-lt}
 use Rattle.std.proofs.shelf.Ways.{tells}
 use Rattle.calls.specs.Call.{Call, call, AllKnow}
 use Rattle.calls.specs.Number.{onto, calls}
+use Rattle.calls.proofs.Numbers.{calls-more}
 use Rattle.knowledge.specs.Set.{Lowest}
 use Rattle.knowledge.specs.Row.{row, Stands, Lack, Behind}
 use Rattle.knowledge.specs.Outcome.{below, CompleteAfter, LowestLack}
 use Rattle.knowledge.specs.declared.HutSet.{HutSet}
 use Rattle.knowledge.proofs.Rows.{behind-onward}
-
--- one call more at the end of the numbers is the latest call
-pub onto-push : (cs : List Call) (xs : List ℕ) (a e : ℕ) → length xs % 2 ≡ 0 → onto cs (xs ++ a ∷ e ∷ []) ≡ call a e ∷ onto cs xs
-unfolding onto
-onto-push cs [] a e h = refl
-onto-push cs (x ∷ []) a e h = absurd (omega arith)
-onto-push cs (x ∷ y ∷ xs) a e h = onto-push (call x y ∷ cs) xs a e (omega arith)
-
-pub take-two-more : (xs : List ℕ) (i : ℕ) → i + 1 < length xs → take (i + 2) xs ≡ take i xs ++ (getD xs i 0 ∷ (getD xs (i + 1) 0 ∷ []))
-take-two-more xs i l =
-    let s : (i + 1) + 1 ≡ i + 2 = omega arith in
-    let first = take-more xs i 0 (omega arith) in
-    let second = take-more xs (i + 1) 0 l in
-    let e : take (i + 2) xs ≡ take (i + 1) xs ++ (getD xs (i + 1) 0 ∷ []) = rw s at second in
-    e ∙ rw first (append-assoc (take i xs) (getD xs i 0 ∷ []) (getD xs (i + 1) 0 ∷ []))
-
--- the calls of two numbers more
-pub calls-more :
-    (xs left : List ℕ) (k : ℕ) → drop (2 * k) xs ≡ left → 1 < length left → calls (take (2 * (k + 1)) xs) ≡ call (getD left 0 0) (getD left 1 0) ∷ calls (take (2 * k) xs)
-calls-more xs left k e l =
-    let size : length left ≡ length xs - 2 * k = rw e at (length-drop (2 * k) xs) in
-    let a : getD left 0 0 ≡ getD xs (2 * k) 0 = rw (e, add-zero) at (getD-drop (2 * k) xs 0 0) in
-    let b : getD left 1 0 ≡ getD xs (2 * k + 1) 0 = rw e at (getD-drop (2 * k) xs 1 0) in
-    let s : 2 * (k + 1) ≡ 2 * k + 2 = omega arith in
-    let even : length (take (2 * k) xs) % 2 ≡ 0 = rw length-take (omega arith) in
-    rw (a, b, s, take-two-more xs (2 * k) (omega arith)) (onto-push [] (take (2 * k) xs) (getD xs (2 * k) 0) (getD xs (2 * k + 1) 0) even)
 
 -- the two huts of the next call are there, and so are those of the calls after it
 pub caller-there : (n : ℕ) (left : List ℕ) → T (below n left) → 1 < length left → getD left 0 0 < n

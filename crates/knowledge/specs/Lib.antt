@@ -1,3 +1,4 @@
 pub mod Set
 pub mod Row
 pub mod Outcome
+pub mod Law

@@ -11,7 +11,7 @@ use Prim.Native.Nat.{ℕ, _*_, _%_, _<_, _≤_}
 use lib.Chars.{codes}
 use lib.Dec.{eqb, ltb, T}
 use lib.ListN.{length, take}
-use Rattle.calls.specs.Call.{knows, AllKnow}
+use Rattle.calls.specs.Call.{hutCount, knows, AllKnow}
 use Rattle.calls.specs.Number.{calls}
 use Rattle.faults.specs.declared.Fault.{Fault}
 use Rattle.faults.specs.declared.Fault.the-variants.{Malformed, NoSuchHut, Memory}
@@ -31,7 +31,7 @@ below n (x ∷ xs) = ltb x n && below n xs
 
 -- no huts or more than 1,024; else a number that is left alone; else a hut that isn't there
 abbrev pub refusal : ℕ → List ℕ → Option Fault
-refusal n xs = cond (eqb n 0 || ltb 1024 n) (Some NoSuchHut) (cond (eqb (length xs % 2) 1) (Some Malformed) (cond (below n xs) None (Some NoSuchHut)))
+refusal n xs = cond (hutCount n) (cond (eqb (length xs % 2) 1) (Some Malformed) (cond (below n xs) None (Some NoSuchHut))) (Some NoSuchHut)
 
 -- after k calls, and not before, every hut knows what every hut saw
 pub record CompleteAfter (n : ℕ) (xs : List ℕ) (k : ℕ) : Type 0 where

@@ -5,6 +5,7 @@ ghost use mathlib.Core.Path.{_≡_};
 ghost use Prim.Native.Nat.{ℕ, _-_, _*_, _%_, _^_, _<_, _≤_};
 ghost use Rattle.calls.specs.Call.{Call, call};
 ghost use Rattle.faults.specs.declared.Fault.the-variants.{Memory};
+ghost use Rattle.knowledge.specs.Law.{OneOutcome};
 ghost use Rattle.knowledge.specs.Outcome.{below, refusal, Says, Tells, shownOf};
 ghost use Rattle.knowledge.specs.Row.{Stands, Behind};
 ghost use Rattle.knowledge.specs.Set.{has, Lowest};
@@ -157,7 +158,7 @@ fn huts_there(n: u16, calls: &[u16]) -> bool
 fn fault_in(n: u16, calls: &[u16]) -> Option<Fault>
     ensures value { λ r. ⌜ r ≡ refusal n (now (calls .entry)) ⌝ }
 {
-    if n == 0 || n > 1024 {
+    if !calls::is_hut_count(n) {
         return Some(Fault::NoSuchHut);
     }
     if calls.len() % 2 == 1 {
@@ -203,4 +204,11 @@ pub fn who_knows(heap: Global, n: u16, calls: &[u16]) -> Result<Outcome, Fault>
     let huts = usize::from(n);
     let mut rows = start(heap, huts)?;
     Ok(follow(&mut rows, huts, calls))
+}
+
+// What is said of a list of calls is so of one outcome only.
+pub fn one_outcome() -> u8
+    ensures { λ _. ⌜ OneOutcome ⌝ }
+{
+    0
 }

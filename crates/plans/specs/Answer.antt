@@ -1,9 +1,9 @@
 -- What is promised of the plan for n huts that can all call each other. Assumes nothing.
 use mathlib.Core.Path.{_≡_}
-use mathlib.Core.Bool.{cond, _||_}
+use mathlib.Core.Bool.{cond}
 use mathlib.Core.List.{List}
 use Prim.Native.Nat.{ℕ, _*_, _-_, _≤_, _<_}
-use lib.Dec.{T, eqb, ltb}
+use lib.Dec.{T, ltb}
 use lib.ListN.{length}
 use Rattle.std.specs.Options.{valueOr}
 use Rattle.std.specs.declared.option.Option.{Option}
@@ -13,7 +13,7 @@ use Rattle.std.specs.declared.result.Result.the-variants.{Ok, Err}
 use Rattle.std.specs.Of.Vec.{vec-items}
 use Rattle.faults.specs.declared.Fault.{Fault}
 use Rattle.faults.specs.declared.Fault.the-variants.{NoSuchHut, Memory}
-use Rattle.calls.specs.Call.{Call, AllKnow, among, Holds}
+use Rattle.calls.specs.Call.{hutCount, Call, AllKnow, among, Holds}
 use Rattle.calls.specs.Number.{numbers}
 use Rattle.plans.specs.declared.Plan.{Plan}
 use Rattle.plans.specs.declared.Square.{Square}
@@ -40,7 +40,7 @@ pub record Planned (n : ℕ) (p : Plan) : Type 0 where
 
 -- the fault of a number of huts, if it has one
 abbrev pub refusal : ℕ → Option Fault
-refusal n = cond (eqb n 0 || ltb 1024 n) (Some NoSuchHut) None
+refusal n = cond (hutCount n) None (Some NoSuchHut)
 
 -- a plan for a number that is not refused; else its fault, or want of memory where it has none
 abbrev pub Answers : ℕ → Result Plan Fault → Type 0

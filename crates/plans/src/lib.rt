@@ -133,7 +133,7 @@ fn smallest_square(n: u16) -> Option<Square>
 pub fn for_huts(heap: Global, n: u16) -> Result<Plan, Fault>
     ensures answers { λ r. ⌜ Answers n r ⌝ }
 {
-    if n == 0 || n > 1024 {
+    if !calls::is_hut_count(n) {
         return Err(Fault::NoSuchHut);
     }
     let calls = prescribed(heap, n)?;
