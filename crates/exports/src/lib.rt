@@ -1,0 +1,31 @@
+// What callers in C and Rust can call.
+ghost use mathlib.Core.Path.{_≡_};
+ghost use Rattle.exports.specs.Code.{codeOf, Told};
+use faults::Fault;
+use knowledge::Outcome;
+use std::alloc::Global;
+
+// An answer as three numbers.
+fn code(answer: Result<Outcome, Fault>) -> [u64; 3]
+    ensures { λ r. ⌜ r ≡ codeOf answer ⌝ }
+{
+    match answer {
+        Ok(Outcome::Complete(made)) => [0, made as u64, 0],
+        Ok(Outcome::Lacks(hut, other)) => [1, u64::from(hut), u64::from(other)],
+        Err(fault) => [2, u64::from(fault.number()), 0],
+    }
+}
+
+// What the calls come to among n huts, put into `told`: 0 and after how many calls all know everything; 1, the lowest hut that
+// lacks something and the lowest that it lacks; or 2 and the number of the fault. `told` has three places; where it has not,
+// the answer is false and `told` stays as it is.
+#[unsafe(no_mangle)]
+pub extern "C" fn purwefi_who_knows(heap: Global, n: u16, calls: &[u16], told: &mut [u64]) -> bool
+    ensures told { λ r. ⌜ Told n (now (calls .entry)) (now (told .entry)) r (now (told .exit)) ⌝ }
+{
+    if told.len() != 3 {
+        return false;
+    }
+    told.copy_from_slice(&code(knowledge::who_knows(heap, n, calls)));
+    true
+}
