@@ -29,3 +29,38 @@ pub extern "C" fn purwefi_who_knows(heap: Global, n: u16, calls: &[u16], told: &
     told.copy_from_slice(&code(knowledge::who_knows(heap, n, calls)));
     true
 }
+
+#[cfg(test)]
+mod tests {
+    use super::*;
+    use std::test::*;
+
+    #[test]
+    fn outcomes(rt: LibcRuntime) -> Result<(), Fail> {
+        let table: [(u16, &[u16], [u64; 3]); 10] = [
+            (1, &[], [0, 0, 0]),
+            (2, &[], [1, 0, 1]),
+            (4, &[0, 1, 2, 3, 0, 2, 1, 3], [0, 4, 0]),
+            (4, &[0, 1, 2, 3, 0, 2, 1, 3, 3, 3], [0, 4, 0]),
+            (4, &[0, 1, 2, 3, 0, 2], [1, 1, 2]),
+            (6, &[0, 4, 0, 5, 0, 1, 2, 3, 0, 2, 1, 3, 0, 4, 0, 5], [0, 8, 0]),
+            (6, &[0, 4, 0, 1, 2, 3, 0, 2, 1, 3, 0, 4, 0, 5], [1, 1, 5]),
+            (4, &[0, 1, 2], [2, 1, 0]),
+            (4, &[0, 1, 2, 4], [2, 2, 0]),
+            (1025, &[0], [2, 2, 0]),
+        ];
+        for (n, calls, code) in table {
+            let mut told = [9; 3];
+            check(purwefi_who_knows(rt.alloc(), n, calls, &mut told))?;
+            check_eq(told, code)?;
+        }
+        Ok(())
+    }
+
+    #[test]
+    fn other_places_stay(rt: LibcRuntime) -> Result<(), Fail> {
+        let mut told = [9; 2];
+        check(!purwefi_who_knows(rt.alloc(), 1, &[], &mut told))?;
+        check_eq(told, [9; 2])
+    }
+}
