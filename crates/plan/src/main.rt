@@ -1,8 +1,7 @@
 // Prints the plan of calls for a number of huts that can all call each other.
 ghost use mathlib.Core.Path.{_≡_};
-ghost use Rattle.std.specs.Of.String.{string-bytes};
 ghost use Rattle.plan.specs.Argument.{numberIn};
-ghost use Rattle.plan.specs.Printed.{Prints};
+ghost use Rattle.plan.specs.Printed.{Prints, Answered};
 use faults::Fault;
 use faults::FaultDisplay;
 use faults::FaultFromAlloc;
@@ -110,19 +109,25 @@ fn text(heap: Global, n: u16) -> Result<String, Fault>
     Ok(plan.to_string(heap)?)
 }
 
-// What is printed on standard output.
-fn answer<'a>(heap: Global, words: &'a [String]) -> Result<String, Failure<'a>> {
-    let word = match asked(words)? {
-        Request::Help => return said(heap, HELP),
-        Request::Version => return said(heap, VERSION),
-        Request::Huts(word) => word,
-    };
+// What is printed for a word that should be a number of huts.
+fn planned<'a>(heap: Global, word: &'a str) -> Result<String, Failure<'a>>
+    ensures answered { λ r. ⌜ Answered (now (word .entry)) r ⌝ }
+{
     let Some(n) = number(word.as_bytes()) else {
         return Err(Failure::NoNumber(word));
     };
     match text(heap, n) {
         Ok(text) => Ok(text),
         Err(fault) => Err(Failure::Refused(word, fault)),
+    }
+}
+
+// What is printed on standard output.
+fn answer<'a>(heap: Global, words: &'a [String]) -> Result<String, Failure<'a>> {
+    match asked(words)? {
+        Request::Help => said(heap, HELP),
+        Request::Version => said(heap, VERSION),
+        Request::Huts(word) => planned(heap, word),
     }
 }
 
