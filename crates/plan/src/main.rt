@@ -225,6 +225,8 @@ mod tests {
             ("-4", "plan: unknown option '-4'"),
             ("4 5", "plan: one argument too many: '5'"),
             ("--", "plan: the number of huts is missing"),
+            ("-- -4", "plan: '-4' is no number of huts"),
+            ("-- --help", "plan: '--help' is no number of huts"),
         ];
         for (line, reason) in table {
             let text = format!(heap, "{reason}{WRONG}")?;
