@@ -10,35 +10,27 @@ use Rattle.std.specs.Written.{decimal}
 use Rattle.faults.specs.declared.Fault.{Fault}
 use Rattle.faults.specs.declared.Fault.the-variants.{Malformed, NoSuchHut, Unsorted, NotJoined, NotAwaited, BadEntry, Conflict, TooEarly, NoLine, TooLong, Closed, Memory}
 
--- the number that users know the fault by; want of memory is no fault of the input, and has 0
-abbrev pub numberOf : Fault → ℕ
-numberOf Malformed = 1
-numberOf NoSuchHut = 2
-numberOf Unsorted = 3
-numberOf (NotJoined hut) = 4
-numberOf NotAwaited = 5
-numberOf BadEntry = 6
-numberOf Conflict = 7
-numberOf TooEarly = 8
-numberOf NoLine = 9
-numberOf TooLong = 10
-numberOf Closed = 11
-numberOf Memory = 0
+-- The number that users know each fault by, and the hut that is told with it: of huts that are not all joined, the lowest that isn't joined to
+-- hut 0. Want of memory is no fault of the input, and has 0.
+abbrev pub tellOf : Fault → ℕ × Option ℕ
+tellOf Malformed = (1, None)
+tellOf NoSuchHut = (2, None)
+tellOf Unsorted = (3, None)
+tellOf (NotJoined hut) = (4, Some hut)
+tellOf NotAwaited = (5, None)
+tellOf BadEntry = (6, None)
+tellOf Conflict = (7, None)
+tellOf TooEarly = (8, None)
+tellOf NoLine = (9, None)
+tellOf TooLong = (10, None)
+tellOf Closed = (11, None)
+tellOf Memory = (0, None)
 
--- the hut that is told with the number: of huts that are not all joined, the lowest that isn't joined to hut 0
+abbrev pub numberOf : Fault → ℕ
+numberOf f = tellOf f .0
+
 abbrev pub hutOf : Fault → Option ℕ
-hutOf Malformed = None
-hutOf NoSuchHut = None
-hutOf Unsorted = None
-hutOf (NotJoined hut) = Some hut
-hutOf NotAwaited = None
-hutOf BadEntry = None
-hutOf Conflict = None
-hutOf TooEarly = None
-hutOf NoLine = None
-hutOf TooLong = None
-hutOf Closed = None
-hutOf Memory = None
+hutOf f = tellOf f .1
 
 -- the fault in words
 abbrev pub causeOf : Fault → List ℕ

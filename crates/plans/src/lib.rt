@@ -8,7 +8,7 @@ ghost use Rattle.std.specs.Results.{Cases};
 ghost use Rattle.faults.specs.declared.Fault.the-variants.{Memory};
 ghost use Rattle.calls.specs.Number.{numbers};
 ghost use Rattle.plans.specs.Complete.{hub, plan, written};
-ghost use Rattle.plans.specs.Answer.{Answers, middle};
+ghost use Rattle.plans.specs.Answer.{Answers, Planned, middle};
 ghost use Rattle.plans.specs.Text.{callLines, squareShown, middleShown, planShown};
 ghost use Rattle.std.specs.Written.{Prints};
 ghost use Rattle.std.specs.declared.option.Option.the-variants.{Some};
@@ -129,6 +129,17 @@ fn smallest_square(n: u16) -> Option<Square>
     })
 }
 
+// The prescribed calls and their square make the plan.
+fn with_square(calls: Vec<u16>, n: u16) -> Plan
+    requires { ⌜ vec-items calls ≡ written n ⌝ }
+    ensures { λ r. ⌜ Planned n r ⌝ }
+{
+    Plan {
+        calls,
+        square: smallest_square(n),
+    }
+}
+
 // The plan for n huts that can all call each other.
 pub fn for_huts(heap: Global, n: u16) -> Result<Plan, Fault>
     ensures answers { λ r. ⌜ Answers n r ⌝ }
@@ -137,6 +148,5 @@ pub fn for_huts(heap: Global, n: u16) -> Result<Plan, Fault>
         return Err(Fault::NoSuchHut);
     }
     let calls = prescribed(heap, n)?;
-    let square = smallest_square(n);
-    Ok(Plan { calls, square })
+    Ok(with_square(calls, n))
 }
