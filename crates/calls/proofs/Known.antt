@@ -1,19 +1,24 @@
 -- Laws of what huts know. Assumes nothing.
-use mathlib.Core.Path.{_≡_, refl, sym, _∙_, ap}
-use mathlib.Core.Bool.{Bool, true, false, cond, _||_}
+use mathlib.Core.Path.{_≡_}
+use mathlib.Core.Bool.{true, false}
 use mathlib.Core.List.{List, [], _∷_, _++_}
-use mathlib.Core.Logic.{_⊎_, inl, inr}
+use mathlib.Core.Logic.{inl, inr}
 use Prim.Native.Nat.{ℕ}
 use native.Mathlib.Omega.{arith}
 use lib.Dec.{eqb, T, eqb→eq, eqb-refl}
 use Rattle.std.proofs.shelf.Tests.{cases-bool}
 use Rattle.std.proofs.shelf.Ways.{tells}
-use Rattle.calls.specs.Call.{Call, knows, with-either, Holds, none, same, more}
-use Rattle.calls.specs.Law.{Onward, Robust, Swap, Composes, Between, Composed}
+use Rattle.calls.specs.Call.{Call, knows, with-either, none, same, more}
+use Rattle.calls.specs.Law.{Onward, Robust, Swap, Composes, Between}
 
 pub onward : Onward
 unfolding knows
 onward cs c i k t = grind (arith, tells)
+
+-- later calls take nothing away
+pub keeps : (ls cs : List Call) (i k : ℕ) → T (knows cs i k) → T (knows (ls ++ cs) i k)
+keeps [] cs i k t = t
+keeps (c ∷ ls) cs i k t = onward (ls ++ cs) c i k (keeps ls cs i k t)
 
 -- a hut knows what it saw itself
 pub knows-own : (cs : List Call) (i : ℕ) → T (knows cs i i)

@@ -1,6 +1,6 @@
 -- A list of calls comes to one outcome only. Assumes nothing.
 use mathlib.Core.Path.{_≡_, sym, ap}
-use mathlib.Core.List.{List, [], _∷_, _++_}
+use mathlib.Core.List.{List, [], _∷_}
 use mathlib.Core.Logic.{inl, inr}
 use Prim.Native.Nat.{ℕ, _*_, _%_, _<_, _≤_}
 use native.Mathlib.Omega.{arith}
@@ -8,12 +8,10 @@ use lib.Dec.{T}
 use lib.ListN.{length, take, drop, take-append-drop}
 use Rattle.std.proofs.shelf.Lists.{length-take}
 use Rattle.std.proofs.shelf.Tests.{cases-order}
-use Rattle.std.proofs.shelf.Ways.{tells}
 use Rattle.calls.specs.Call.{Call, call, knows}
 use Rattle.calls.specs.Number.{onto, calls}
 use Rattle.calls.proofs.Known.{onward}
 use Rattle.calls.proofs.Numbers.{onto-append}
-use Rattle.knowledge.specs.declared.Outcome.{Outcome}
 use Rattle.knowledge.specs.declared.Outcome.the-variants.{Complete, Lacks}
 use Rattle.knowledge.specs.Outcome.{CompleteAfter, LowestLack}
 use Rattle.knowledge.specs.Law.{OneOutcome}

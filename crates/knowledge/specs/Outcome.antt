@@ -5,7 +5,7 @@
 --     Tells n xs r     the answer r is the right outcome, or the right refusal
 -- A call of a hut with itself is no fault: nobody learns anything by it.
 use mathlib.Core.Path.{_≡_}
-use mathlib.Core.Bool.{Bool, true, false, cond, _&&_, _||_}
+use mathlib.Core.Bool.{Bool, true, false, cond, _&&_}
 use mathlib.Core.List.{List, [], _∷_, _++_}
 use Prim.Native.Nat.{ℕ, _*_, _%_, _<_, _≤_}
 use lib.Chars.{codes}

@@ -1,5 +1,5 @@
 -- The plan that is printed is the prescribed one. Assumes nothing.
-use mathlib.Core.Path.{_≡_, _∙_, ap, sym}
+use mathlib.Core.Path.{_≡_, ap}
 use Prim.Native.Nat.{ℕ, _/_}
 use native.Mathlib.Omega.{arith}
 use lib.ListN.{length}
@@ -8,7 +8,7 @@ use Rattle.calls.specs.Number.{numbers}
 use Rattle.calls.proofs.Numbers.{length-numbers}
 use Rattle.plans.specs.declared.Plan.{Plan}
 use Rattle.plans.specs.Complete.{plan}
-use Rattle.plans.specs.Answer.{Planned, middle}
+use Rattle.plans.specs.Answer.{Planned}
 use Rattle.plans.specs.Text.{textShown, planShown}
 use Rattle.plan.specs.Printed.{planText}
 

@@ -1,27 +1,22 @@
 -- The plan for huts that can all call each other does it. Assumes nothing.
 use mathlib.Core.Path.{_≡_, refl, sym, _∙_, ap}
-use mathlib.Core.Bool.{Bool, true, false, cond, _||_, _&&_, not}
+use mathlib.Core.Bool.{false}
 use mathlib.Core.List.{List, [], _∷_, _++_, append-nil}
-use mathlib.Core.Logic.{_⊎_, inl, inr}
+use mathlib.Core.Logic.{inl, inr}
 use Prim.Native.Nat.{ℕ, zero, suc, _+_, _*_, _-_, _≤_, _<_}
 use native.Mathlib.Omega.{arith}
-use lib.Dec.{eqb, ltb, T, eqb→eq, eqb-refl}
+use lib.Dec.{ltb, T}
 use lib.ListN.{length, length-append}
 use Rattle.std.proofs.shelf.Tests.{cases-lt, cond-false}
 use Rattle.std.proofs.shelf.Ways.{tells}
-use Rattle.calls.specs.Call.{Call, call, knows, among, with-either, AllKnow, Holds}
-use Rattle.calls.proofs.Known.{onward, knows-own, knows-first, knows-second, robust}
+use Rattle.calls.specs.Call.{Call, call, knows, among, AllKnow, Holds}
+use Rattle.calls.proofs.Known.{onward, keeps, knows-own, knows-first, knows-second, robust}
 use Rattle.calls.specs.Number.{numbers}
 use Rattle.calls.proofs.Numbers.{numbers-append}
 use Rattle.std.specs.Of.Vec.{vec-items}
 use Rattle.plans.specs.declared.Plan.{Plan}
 use Rattle.plans.specs.Complete.{hub, round, plan, written}
 use Rattle.plans.specs.Answer.{Planned, middle}
-
--- later calls take nothing away
-keeps : (ls cs : List Call) (i k : ℕ) → T (knows cs i k) → T (knows (ls ++ cs) i k)
-keeps [] cs i k t = t
-keeps (c ∷ ls) cs i k t = onward (ls ++ cs) c i k (keeps ls cs i k t)
 
 -- hut 0 has heard from each hut that it called
 gathers : (m k : ℕ) → k < m → T (knows (hub m) 0 (k + 4))
