@@ -138,12 +138,17 @@ fn said<'a>(heap: Global, words: &'a str) -> Result<String, Failure<'a>> {
     }
 }
 
-// Writes the whole text at once. A reader that has seen enough is no failure.
-fn deliver(rt: &LibcRuntime, text: &str) -> io::Result<()> {
-    match rt.stdout().write_all(text.as_bytes()) {
+// What became of writing. A reader that has seen enough is no failure.
+fn forgiving(done: io::Result<()>) -> io::Result<()> {
+    match done {
         Err(e) if e.kind() == ErrorKind::BrokenPipe => Ok(()),
         done => done,
     }
+}
+
+// Writes the whole text at once.
+fn deliver(rt: &LibcRuntime, text: &str) -> io::Result<()> {
+    forgiving(rt.stdout().write_all(text.as_bytes()))
 }
 
 fn arguments(rt: &LibcRuntime) -> io::Result<Vec<String>> {
@@ -233,6 +238,13 @@ mod tests {
             check_eq(told(heap, line)?.as_str(), text.as_str())?;
         }
         Ok(())
+    }
+
+    #[test]
+    fn only_a_reader_that_left_is_forgiven() -> Result<(), Fail> {
+        check(forgiving(Ok(())).is_ok())?;
+        check(forgiving(Err(io::Error::from(ErrorKind::BrokenPipe))).is_ok())?;
+        check(forgiving(Err(io::Error::from(ErrorKind::StorageFull))).is_err())
     }
 
     #[test]
