@@ -1,14 +1,14 @@
 -- Laws of what huts know. Assumes nothing.
-use mathlib.Core.Path.{_≡_}
+use mathlib.Core.Path.{_≡_, refl}
 use mathlib.Core.Bool.{true, false}
 use mathlib.Core.List.{List, [], _∷_, _++_}
-use mathlib.Core.Logic.{inl, inr}
+use mathlib.Core.Logic.{_⊎_, inl, inr}
 use Prim.Native.Nat.{ℕ}
 use native.Mathlib.Omega.{arith}
-use lib.Dec.{eqb, T, eqb→eq, eqb-refl}
+use lib.Dec.{T, eqb→eq, eqb-refl}
 use Rattle.std.proofs.shelf.Tests.{cases-bool}
 use Rattle.std.proofs.shelf.Ways.{tells}
-use Rattle.calls.specs.Call.{Call, knows, with-either, none, same, more}
+use Rattle.calls.specs.Call.{Call, knows, with-either, busy, none, same, more}
 use Rattle.calls.specs.Law.{Onward, Robust, Swap, Composes, Between}
 
 pub onward : Onward
@@ -55,23 +55,35 @@ pub knows-second : (cs : List Call) (c : Call) (i k : ℕ) → with-either i c �
 unfolding knows
 knows-second cs c i k h t = grind (arith, tells)
 
--- what i knows of k after the call c, some hut knew before, and whatever that hut knows at such a moment i knows after c
+-- both in a call know the same after it
+pub knows-same : (cs : List Call) (c : Call) (i j k : ℕ) → with-either i c ≡ true → with-either j c ≡ true → knows (c ∷ cs) i k ≡ knows (c ∷ cs) j k
+unfolding knows
+knows-same cs c i j k p q = grind (arith, tells)
+
+-- what i knows of k after the call c, some hut knew before: i itself, or one of the two in the call, and then i is in it too
 pub record From (c : Call) (cs : List Call) (i k : ℕ) : Type 0 where
   pub hut : ℕ
   pub knew : T (knows cs hut k)
-  pub passes : (ds : List Call) (m : ℕ) → T (knows ds hut m) → T (knows (c ∷ ds) i m)
+  pub near : (hut ≡ i) ⊎ ((with-either i c ≡ true) × (with-either hut c ≡ true))
 
 pub knows-from : (cs : List Call) (c : Call) (i k : ℕ) → T (knows (c ∷ cs) i k) → From c cs i k
 unfolding knows
 knows-from cs c i k t =
     elim (cases-bool (with-either i c)) [
-      | inr apart ↦ record { hut = i; knew = rw (knows-apart cs c i k apart) at t; passes = λ ds m u. rw (knows-apart ds c i m apart) u }
+      | inr apart ↦ record { hut = i; knew = rw (knows-apart cs c i k apart) at t; near = inl refl }
       | inl in-it ↦
           elim (cases-bool (knows cs (c .a) k)) [
-            | inl first ↦ record { hut = c .a; knew = grind arith; passes = λ ds m u. knows-first ds c i m in-it u }
-            | inr other ↦ record { hut = c .e; knew = grind (arith, tells); passes = λ ds m u. knows-second ds c i m in-it u }
+            | inl first ↦ record { hut = c .a; knew = grind arith; near = inr (in-it, grind (arith, tells)) }
+            | inr other ↦ record { hut = c .e; knew = grind (arith, tells); near = inr (in-it, grind (arith, tells)) }
           ]
     ]
+
+-- that hut and i know the same after the call, whatever came before it
+pub alike : (c : Call) (cs : List Call) (i k : ℕ) (f : From c cs i k) (ds : List Call) (m : ℕ) → knows (c ∷ ds) (f .hut) m ≡ knows (c ∷ ds) i m
+alike c cs i k f ds m = elim (f .near) [ inl itself ↦ rw itself refl | inr both ↦ knows-same ds c (f .hut) i m (both .1) (both .0) ]
+
+passes : (c : Call) (cs : List Call) (i k : ℕ) (f : From c cs i k) (ds : List Call) (m : ℕ) → T (knows ds (f .hut) m) → T (knows (c ∷ ds) i m)
+passes c cs i k f ds m t = rw (alike c cs i k f ds m) at (onward ds c (f .hut) m t)
 
 pub composes : Composes
 unfolding knows
@@ -86,9 +98,23 @@ composes (c ∷ later) earlier i k =
           λ t.
           let f : From c (later ++ earlier) i k = knows-from (later ++ earlier) c i k t in
           let b : Between later earlier (f .hut) k = composes later earlier (f .hut) k .parts (f .knew) in
-          record { hut = b .hut; after = f .passes later (b .hut) (b .after); before = b .before };
+          record { hut = b .hut; after = passes c (later ++ earlier) i k f later (b .hut) (b .after); before = b .before };
       whole =
           λ b.
           let f : From c later i (b .hut) = knows-from later c i (b .hut) (b .after) in
-          f .passes (later ++ earlier) k (composes later earlier (f .hut) k .whole (record { hut = b .hut; after = f .knew; before = b .before }));
+          passes c later i (b .hut) f (later ++ earlier) k (composes later earlier (f .hut) k .whole (record { hut = b .hut; after = f .knew; before = b .before }));
     }
+
+-- a hut in no call knows only what it saw itself, and no other knows that
+pub idle-knows : (cs : List Call) (i k : ℕ) → busy i cs ≡ false → T (knows cs i k) → i ≡ k
+unfolding knows busy
+idle-knows [] i k b t = eqb→eq i k t
+idle-knows (c ∷ cs) i k b t = idle-knows cs i k (grind (arith, tells)) (grind (arith, tells))
+
+pub idle-known : (cs : List Call) (i k : ℕ) → busy k cs ≡ false → T (knows cs i k) → i ≡ k
+unfolding knows busy
+idle-known [] i k b t = eqb→eq i k t
+idle-known (c ∷ cs) i k b t =
+    let f : From c cs i k = knows-from cs c i k t in
+    let own : f .hut ≡ k = idle-known cs (f .hut) k (grind (arith, tells)) (f .knew) in
+    elim (f .near) [ inl here ↦ cc | inr both ↦ absurd (grind (arith, tells)) ]

@@ -4,9 +4,10 @@
 --     knows cs i k     hut i knows what hut k saw, after the calls cs
 --     AllKnow n cs     each of the huts 0 to n - 1 knows what each of them saw: the list does it
 --     among n cs       every call of cs is between two different huts below n
+--     busy i cs        hut i is in one of the calls cs
 --     Holds ps cs      cs has the calls ps in their order, with any others in between
 -- A list of calls has the latest one first, so that one more call goes in front.
-use mathlib.Core.Bool.{Bool, true, cond, _&&_, _||_, not}
+use mathlib.Core.Bool.{Bool, true, false, cond, _&&_, _||_, not}
 use mathlib.Core.List.{List, [], _∷_}
 use Prim.Native.Nat.{ℕ, _<_}
 use lib.Dec.{eqb, leb, ltb, T}
@@ -39,6 +40,11 @@ AllKnow n cs = (i k : ℕ) → i < n → k < n → T (knows cs i k)
 unfoldable pub among : ℕ → List Call → Bool
 among n [] = true
 among n (c ∷ cs) = ltb (c .a) n && ltb (c .e) n && not (eqb (c .a) (c .e)) && among n cs
+
+-- hut i is in one of the calls
+unfoldable pub busy : ℕ → List Call → Bool
+busy i [] = false
+busy i (c ∷ cs) = with-either i c || busy i cs
 
 -- the calls ps came about in their order; others may have come about before, between and after them
 pub data Holds : List Call → List Call → Type 0 where

@@ -1,4 +1,3 @@
 pub mod Call
 pub mod Number
 pub mod Law
-pub mod Promise
