@@ -1,0 +1,94 @@
+-- Moments of a list of calls, and the same list in turned time. Assumes nothing.
+--     Via ts es i k      a hut that knew of k at the moment, and from which it came to i afterwards
+--     Moment n ts es     at the moment between es and ts: whatever i knows in the end comes to it so, and nobody gets its own news back
+--     Quiet n cs         every moment of cs is such
+-- At a moment the calls es were made, the latest first, and the calls ts are to come, the next one first. Read as a list of calls ts is in turned
+-- time: knows ts w i says that what w knows at the moment comes to i. So whatever holds of es and ts holds of ts and es.
+use mathlib.Core.Path.{_≡_, sym, _∙_, ap}
+use mathlib.Core.List.{List, [], _∷_, reverseAux-reverseAux-nil}
+use mathlib.Core.Logic.{inl, inr}
+use Prim.Native.Nat.{ℕ, _<_}
+use native.Mathlib.Omega.{arith}
+use lib.Dec.{T, eqb→eq}
+use Rattle.std.proofs.shelf.Tests.{cases-eq}
+use Rattle.std.proofs.shelf.Ways.{tells}
+use Rattle.calls.specs.Call.{Call, knows, among, AllKnow}
+use Rattle.calls.proofs.Known.{onward, knows-own, knows-from, From, alike}
+use Rattle.fewest.specs.Own.{hears, NobodyHears}
+use Rattle.fewest.proofs.Counts.{whole}
+
+pub record Via (ts es : List Call) (i k : ℕ) : Type 0 where
+  pub hut : ℕ
+  pub after : T (knows ts hut i)
+  pub before : T (knows es hut k)
+
+pub via : (ts es : List Call) (i k : ℕ) → T (knows (whole ts es) i k) → Via ts es i k
+via [] es i k t = record { hut = i; after = knows-own [] i; before = t }
+via (c ∷ ts) es i k t =
+    let v = via ts (c ∷ es) i k t in
+    let f = knows-from es c (v .hut) k (v .before) in
+    record { hut = f .hut; after = rw (alike c es (v .hut) k f ts i) (onward ts c (v .hut) i (v .after)); before = f .knew }
+
+-- in turned time k knows of i what i knows of k
+pub turned : (cs : List Call) (i k : ℕ) → T (knows cs i k) → T (knows (whole cs []) k i)
+unfolding knows
+turned cs i k t =
+    let v : Via (whole cs []) [] i k = via (whole cs []) [] i k (rw (reverseAux-reverseAux-nil cs []) t) in
+    rw (eqb→eq (v .hut) k (v .before)) at (v .after)
+
+-- who has heard its own news has heard it
+hears-later : (ts es : List Call) (x : ℕ) → T (hears es x) → T (hears (whole ts es) x)
+unfolding hears
+hears-later [] es x t = t
+hears-later (c ∷ ts) es x t = hears-later ts (c ∷ es) x (grind arith)
+
+-- If at some moment another hut knows what x saw, and that comes to x afterwards, then x hears its own news.
+pub comes-back : (ts es : List Call) (x w : ℕ) → (w ≡ x → ⊥) → T (knows es w x) → T (knows ts w x) → T (hears (whole ts es) x)
+unfolding knows hears
+comes-back [] es x w other before after = absurd (other (eqb→eq w x after))
+comes-back (c ∷ ts) es x w other before after =
+    let f : From c ts w x = knows-from ts c w x after in
+    elim (cases-eq (f .hut) x) [
+      | inr still ↦ comes-back ts (c ∷ es) x (f .hut) still (rw (alike c ts w x f es x) (onward es c w x before)) (f .knew)
+      | inl back ↦
+          elim (f .near) [
+            | inl itself ↦ absurd (other (sym itself ∙ back))
+            | inr both ↦ hears-later ts (c ∷ es) x (grind (arith, tells))
+          ]
+    ]
+
+pub record Moment (n : ℕ) (ts es : List Call) : Type 0 where
+  pub meet : (i k : ℕ) → i < n → k < n → Via ts es i k
+  pub quiet : (x w : ℕ) → x < n → (w ≡ x → ⊥) → T (knows es w x) → T (knows ts w x) → ⊥
+  pub apart : T (among n ts) × T (among n es)
+
+pub moment-turned : {n : ℕ} {ts es : List Call} → Moment n ts es → Moment n es ts
+moment-turned m =
+    record {
+      meet = λ i k p q. let v = m .meet k i q p in record { hut = v .hut; after = v .before; before = v .after };
+      quiet = λ x w p other before after. m .quiet x w p other after before;
+      apart = (m .apart .1, m .apart .0);
+    }
+
+abbrev pub Quiet : ℕ → List Call → Type 0
+Quiet n cs = (ts es : List Call) → whole ts es ≡ cs → Moment n ts es
+
+-- a moment of a list is one of the same list in turned time
+pub turned-at : (ts es cs : List Call) → whole ts es ≡ cs → whole es ts ≡ whole cs []
+turned-at ts es cs e = sym (reverseAux-reverseAux-nil ts es) ∙ ap (λ l. whole l []) e
+
+pub quiet-turned : (n : ℕ) (cs : List Call) → Quiet n cs → Quiet n (whole cs [])
+quiet-turned n cs q ts es e = moment-turned (q es ts (turned-at ts es (whole cs []) e ∙ reverseAux-reverseAux-nil cs []))
+
+among-parts : (n : ℕ) (ts es : List Call) → T (among n (whole ts es)) → T (among n ts) × T (among n es)
+unfolding among
+among-parts n [] es t = (tt, t)
+among-parts n (c ∷ ts) es t = let parts = among-parts n ts (c ∷ es) t in let u = parts .0 in let v = parts .1 in (grind arith, grind arith)
+
+pub quiet-from : (n : ℕ) (cs : List Call) → T (among n cs) → AllKnow n cs → NobodyHears n cs → Quiet n cs
+quiet-from n cs apart all nobody ts es e =
+    record {
+      meet = λ i k p q. via ts es i k (rw e (all i k p q));
+      quiet = λ x w p other before after. let t : T (hears cs x) = rw e at (comes-back ts es x w other before after) in let f = nobody x p in grind arith;
+      apart = among-parts n ts es (rw e apart);
+    }
