@@ -1,4 +1,4 @@
--- The plan for huts that can all call each other does it. Assumes nothing.
+-- The plan for huts that can all call each other does it, and with the fewest calls. Assumes nothing.
 use mathlib.Core.Path.{_≡_, refl, sym, _∙_, ap}
 use mathlib.Core.Bool.{false}
 use mathlib.Core.List.{List, [], _∷_, _++_, append-nil}
@@ -13,6 +13,8 @@ use Rattle.calls.specs.Call.{Call, call, knows, among, AllKnow, Holds}
 use Rattle.calls.proofs.Known.{onward, keeps, knows-own, knows-first, knows-second, robust}
 use Rattle.calls.specs.Number.{numbers}
 use Rattle.calls.proofs.Numbers.{numbers-append}
+use Rattle.fewest.proofs.Learned.{one-to-all}
+use Rattle.fewest.proofs.Fewest.{none-fewer, as-many-as-huts}
 use Rattle.std.specs.Of.Vec.{vec-items}
 use Rattle.plans.specs.declared.Plan.{Plan}
 use Rattle.plans.specs.Complete.{hub, round, plan, written}
@@ -110,6 +112,18 @@ length-plan-few (suc (suc zero)) h l = refl
 length-plan-few (suc (suc (suc zero))) h l = refl
 length-plan-few (suc (suc (suc (suc m)))) h l = absurd (omega arith)
 
+-- no list of calls that does it has fewer
+pub least : (n : ℕ) (cs : List Call) → T (among n cs) → AllKnow n cs → length (plan n) ≤ length cs
+unfolding plan
+least zero cs apart all = omega arith
+least (suc zero) cs apart all = omega arith
+least (suc (suc zero)) cs apart all = one-to-all 2 cs 0 (omega arith) (λ k l. all k 0 l (omega arith))
+least (suc (suc (suc zero))) cs apart all = as-many-as-huts 3 (omega arith) cs all
+least (suc (suc (suc (suc m)))) cs apart all =
+    let count = length-plan (suc (suc (suc (suc m)))) (omega arith) in
+    let bound = none-fewer (suc (suc (suc (suc m)))) (omega arith) cs apart all in
+    omega arith
+
 -- what is written down is the plan
 pub written-plan : (n : ℕ) → written n ≡ numbers (plan n)
 unfolding plan numbers
@@ -145,6 +159,7 @@ planned n p calls square =
       apart = among-plan n;
       all-know = all-know n;
       with-others = all-know-with-others n;
+      least = least n;
       count = length-plan n;
       count-few = length-plan-few n;
       square = square;

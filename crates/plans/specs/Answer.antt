@@ -32,6 +32,8 @@ pub record Planned (n : ℕ) (p : Plan) : Type 0 where
   pub all-know : AllKnow n (plan n)
   -- and so does every list that holds them in their order, with any other calls in between
   pub with-others : (cs : List Call) → Holds (plan n) cs → AllKnow n cs
+  -- no list of calls whatever among these huts that does so has fewer
+  pub least : (cs : List Call) → T (among n cs) → AllKnow n cs → length (plan n) ≤ length cs
   -- how many there are
   pub count : 4 ≤ n → length (plan n) ≡ 2 * n - 4
   pub count-few : 2 ≤ n → n < 4 → length (plan n) ≡ 2 * n - 3

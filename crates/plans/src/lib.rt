@@ -99,21 +99,6 @@ fn few(n: u16) -> &'static [u16]
     }
 }
 
-// The calls of the plan for n huts, written down one after the other.
-fn prescribed(heap: Global, n: u16) -> Result<Vec<u16>, Fault>
-    ensures { λ r. ⌜ Cases r (λ v. vec-items v ≡ written n) (λ f. f ≡ Memory) ⌝ }
-{
-    let mut calls = Vec::new(heap);
-    if n < 4 {
-        calls.extend_from_slice(few(n))?;
-        return Ok(calls);
-    }
-    push_hub(&mut calls, n)?;
-    calls.extend_from_slice(&[0, 1, 2, 3, 0, 2, 1, 3])?;
-    push_hub(&mut calls, n)?;
-    Ok(calls)
-}
-
 // The smallest square, where all lines are there.
 fn smallest_square(n: u16) -> Option<Square>
     ensures { λ r. ⌜ r ≡ middle n ⌝ }
@@ -140,13 +125,20 @@ fn with_square(calls: Vec<u16>, n: u16) -> Plan
     }
 }
 
-// The plan for n huts that can all call each other.
+// The plan for n huts that can all call each other: no list of calls that does it has fewer.
 pub fn for_huts(heap: Global, n: u16) -> Result<Plan, Fault>
     ensures answers { λ r. ⌜ Answers n r ⌝ }
 {
     if !calls::is_hut_count(n) {
         return Err(Fault::NoSuchHut);
     }
-    let calls = prescribed(heap, n)?;
+    let mut calls = Vec::new(heap);
+    if n < 4 {
+        calls.extend_from_slice(few(n))?;
+        return Ok(with_square(calls, n));
+    }
+    push_hub(&mut calls, n)?;
+    calls.extend_from_slice(&[0, 1, 2, 3, 0, 2, 1, 3])?;
+    push_hub(&mut calls, n)?;
     Ok(with_square(calls, n))
 }
