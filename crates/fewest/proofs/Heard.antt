@@ -5,7 +5,7 @@
 -- by which the news of x comes back to it: at the first call by which it goes out, and at the one by which it comes back. On the way the
 -- stead of x goes along with its news: a call between y and z makes z know all that y knows, so z can stand for x from then on.
 use mathlib.Core.Path.{_≡_, refl, subst}
-use mathlib.Core.Bool.{true, false, cond, _&&_}
+use mathlib.Core.Bool.{true, false, cond}
 use mathlib.Core.List.{List, [], _∷_}
 use mathlib.Core.Logic.{inl, inr}
 use Prim.Native.Nat.{ℕ, suc, _+_, _≤_, _<_}
@@ -16,7 +16,8 @@ use Rattle.std.proofs.shelf.Tests.{cases-bool, cases-eq}
 use Rattle.std.proofs.shelf.Ways.{tells}
 use Rattle.calls.specs.Call.{Call, call, knows, with-either, busy, among}
 use Rattle.calls.proofs.Known.{onward, knows-from, From, knows-same}
-use Rattle.fewest.specs.Own.{hears, hearsIn, toldBy, HearingCosts}
+use Rattle.fewest.proofs.Moments.{Teller, told-by}
+use Rattle.fewest.specs.Own.{hears, hearsIn, HearingCosts}
 
 unfoldable stead : ℕ → ℕ → ℕ → ℕ
 stead x y i = cond (eqb i x) y i
@@ -149,21 +150,6 @@ module _ (n x : ℕ) where
             ]
       ]
 
-  -- the hut by which x is told its own news in the call c
-  record Teller (c : Call) (cs : List Call) : Type 0 where
-    hut : ℕ
-    other : hut ≡ x → ⊥
-    told : with-either x c ≡ true
-    tells-it : with-either hut c ≡ true
-    knew : T (knows cs hut x)
-
-  teller : (c : Call) (cs : List Call) → T (hearsIn c cs x) → Teller c cs
-  teller c cs t =
-      elim (cases-bool (eqb x (c .a) && toldBy (c .e) cs x)) [
-        | inl first ↦ record { hut = c .e; other = λ e. grind (arith, tells); told = grind (arith, tells); tells-it = grind (arith, tells); knew = grind (arith, tells) }
-        | inr second ↦ record { hut = c .a; other = λ e. grind (arith, tells); told = grind (arith, tells); tells-it = grind (arith, tells); knew = grind (arith, tells) }
-      ]
-
   -- If x hears its own news, two calls are spared: the one by which it went out, and the one by which it came back.
   stand-back : (cs : List Call) → T (among n cs) → T (hears cs x) → (y : ℕ) × Stand n x y 2 cs
   unfolding hears among stead
@@ -173,10 +159,10 @@ module _ (n x : ℕ) where
       elim (cases-bool (hearsIn c cs x)) [
         | inr not-yet ↦ let s = stand-back cs rest (grind arith) in (s .0, stand-more {y = s .0} c apart (s .1))
         | inl back ↦
-            let v : Teller c cs = teller c cs (grind arith) in
+            let v : Teller c cs x = told-by c cs x (grind arith) in
             let other = v .other in
             let in-x = v .told in
-            let in-v = v .tells-it in
+            let in-v = v .teller in
             (v .hut, stand-drop 2 c (omega arith) (grind (arith, tells)) (stand-out (v .hut) cs (grind (arith, tells)) other rest (v .knew)))
       ]
 

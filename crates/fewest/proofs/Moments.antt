@@ -4,17 +4,18 @@
 --     Quiet n cs         every moment of cs is such
 -- At a moment the calls es were made, the latest first, and the calls ts are to come, the next one first. Read as a list of calls ts is in turned
 -- time: knows ts w i says that what w knows at the moment comes to i. So whatever holds of es and ts holds of ts and es.
-use mathlib.Core.Path.{_≡_, sym, _∙_, ap}
-use mathlib.Core.List.{List, [], _∷_, reverseAux-reverseAux-nil}
+use mathlib.Core.Path.{_≡_, refl, sym, _∙_, ap}
+use mathlib.Core.Bool.{true, _&&_}
+use mathlib.Core.List.{List, [], _∷_, _++_, reverse, reverse-reverse, reverseAux-eq, reverseAux-reverseAux-nil}
 use mathlib.Core.Logic.{inl, inr}
 use Prim.Native.Nat.{ℕ, _<_}
 use native.Mathlib.Omega.{arith}
-use lib.Dec.{T, eqb→eq}
-use Rattle.std.proofs.shelf.Tests.{cases-eq}
+use lib.Dec.{eqb, T, eqb→eq}
+use Rattle.std.proofs.shelf.Tests.{cases-bool, cases-eq}
 use Rattle.std.proofs.shelf.Ways.{tells}
-use Rattle.calls.specs.Call.{Call, knows, among, AllKnow}
-use Rattle.calls.proofs.Known.{onward, knows-own, knows-from, From, alike}
-use Rattle.fewest.specs.Own.{hears, NobodyHears}
+use Rattle.calls.specs.Call.{Call, knows, with-either, among, AllKnow}
+use Rattle.calls.proofs.Known.{onward, knows-own, knows-same, knows-from, From, alike}
+use Rattle.fewest.specs.Own.{toldBy, hearsIn, hears, Back, ComesBack, NobodyHears}
 use Rattle.fewest.proofs.Counts.{whole}
 
 pub record Via (ts es : List Call) (i k : ℕ) : Type 0 where
@@ -36,6 +37,10 @@ turned cs i k t =
     let v : Via (whole cs []) [] i k = via (whole cs []) [] i k (rw (reverseAux-reverseAux-nil cs []) t) in
     rw (eqb→eq (v .hut) k (v .before)) at (v .after)
 
+-- the calls before and after a moment as they stand in the list
+pub whole-append : (later earlier : List Call) → whole (whole later []) earlier ≡ later ++ earlier
+whole-append later earlier = reverseAux-eq (reverse later) earlier ∙ ap (λ l. l ++ earlier) (reverse-reverse later)
+
 -- who has heard its own news has heard it
 hears-later : (ts es : List Call) (x : ℕ) → T (hears es x) → T (hears (whole ts es) x)
 unfolding hears
@@ -56,6 +61,43 @@ comes-back (c ∷ ts) es x w other before after =
             | inr both ↦ hears-later ts (c ∷ es) x (grind (arith, tells))
           ]
     ]
+
+-- the hut by which x is told its own news in the call c, made after the calls cs
+pub record Teller (c : Call) (cs : List Call) (x : ℕ) : Type 0 where
+  pub hut : ℕ
+  pub other : hut ≡ x → ⊥
+  pub told : with-either x c ≡ true
+  pub teller : with-either hut c ≡ true
+  pub knew : T (knows cs hut x)
+
+pub told-by : (c : Call) (cs : List Call) (x : ℕ) → T (hearsIn c cs x) → Teller c cs x
+told-by c cs x t =
+    elim (cases-bool (eqb x (c .a) && toldBy (c .e) cs x)) [
+      | inl first ↦ record { hut = c .e; other = λ e. grind (arith, tells); told = grind (arith, tells); teller = grind (arith, tells); knew = grind (arith, tells) }
+      | inr second ↦ record { hut = c .a; other = λ e. grind (arith, tells); told = grind (arith, tells); teller = grind (arith, tells); knew = grind (arith, tells) }
+    ]
+
+-- The other way round: the moment before the call in which x is told its own news is such.
+back-from : (cs : List Call) (x : ℕ) → T (hears cs x) → Back cs x
+unfolding hears
+back-from [] x t = absurd t
+back-from (c ∷ cs) x t =
+    elim (cases-bool (hearsIn c cs x)) [
+      | inl told ↦
+          let v : Teller c cs x = told-by c cs x (grind arith) in
+          let both = rw (knows-same [] c (v .hut) x (v .hut) (v .teller) (v .told)) at (onward [] c (v .hut) (v .hut) (knows-own [] (v .hut))) in
+          record { later = c ∷ []; earlier = cs; whole = refl; hut = v .hut; other = v .other; out = v .knew; back = both }
+      | inr not-yet ↦
+          let b : Back cs x = back-from cs x (grind arith) in
+          record { later = c ∷ b .later; earlier = b .earlier; whole = ap (λ l. c ∷ l) (b .whole); hut = b .hut; other = b .other; out = b .out; back = onward (b .later) c x (b .hut) (b .back) }
+    ]
+
+pub own-news : ComesBack
+own-news cs x = (
+  back-from cs x,
+  λ b. rw (whole-append (b .later) (b .earlier) ∙ b .whole) at
+      (comes-back (whole (b .later) []) (b .earlier) x (b .hut) (b .other) (b .out) (turned (b .later) x (b .hut) (b .back))),
+)
 
 pub record Moment (n : ℕ) (ts es : List Call) : Type 0 where
   pub meet : (i k : ℕ) → i < n → k < n → Via ts es i k

@@ -1,7 +1,7 @@
 -- Calls in a list in which nobody hears its own news: first calls are first for both, and last calls are last for both. Assumes nothing.
-use mathlib.Core.Path.{_≡_, refl, sym, _∙_, ap}
+use mathlib.Core.Path.{_≡_, refl, sym, _∙_}
 use mathlib.Core.Bool.{true, false, _&&_, _||_}
-use mathlib.Core.List.{List, [], _∷_, _++_, reverse, reverse-reverse, reverseAux-eq}
+use mathlib.Core.List.{List, [], _∷_, _++_}
 use mathlib.Core.Logic.{inl, inr}
 use Prim.Native.Nat.{ℕ, _<_}
 use native.Mathlib.Omega.{arith}
@@ -12,7 +12,7 @@ use Rattle.calls.specs.Call.{Call, knows, with-either, busy, among}
 use Rattle.calls.proofs.Known.{onward, knows-own, knows-first, knows-second, knows-same, idle-knows, idle-known}
 use Rattle.fewest.specs.Own.{FirstAndLast}
 use Rattle.fewest.proofs.Counts.{whole}
-use Rattle.fewest.proofs.Moments.{Moment, moment-turned, Quiet, quiet-from}
+use Rattle.fewest.proofs.Moments.{whole-append, Moment, moment-turned, Quiet, quiet-from}
 use Rattle.fewest.proofs.Learned.{learns, Source, source}
 
 -- the moments before and after the call c, made after the calls es and before the calls ts
@@ -115,9 +115,7 @@ pub first-and-last : FirstAndLast
 unfolding busy
 first-and-last n later c earlier apart all nobody =
     let cs : List Call = later ++ (c ∷ earlier) in
-    let ts : List Call = reverse later in
-    let e : whole ts (c ∷ earlier) ≡ cs = reverseAux-eq ts (c ∷ earlier) ∙ ap (λ l. l ++ (c ∷ earlier)) (reverse-reverse later) in
-    let p = place n cs (quiet-from n cs apart all nobody) ts c earlier e in
+    let p = place n cs (quiet-from n cs apart all nobody) (whole later []) c earlier (whole-append later (c ∷ earlier)) in
     let in-a : with-either (c .a) c ≡ true = grind (arith, tells) in
     let in-e : with-either (c .e) c ≡ true = grind (arith, tells) in
     let a-later = busy-whole (c .a) later [] in

@@ -6,6 +6,7 @@
 use mathlib.Core.Path.{_≡_}
 use mathlib.Core.Bool.{Bool, false, _&&_, _||_, not}
 use mathlib.Core.List.{List, [], _∷_, _++_}
+use mathlib.Core.Logic.{_↔_}
 use Prim.Native.Nat.{ℕ, suc, _+_, _≤_, _<_}
 use lib.Dec.{eqb, T}
 use lib.ListN.{length}
@@ -20,6 +21,20 @@ hearsIn c cs x = (eqb x (c .a) && toldBy (c .e) cs x) || (eqb x (c .e) && toldBy
 unfoldable pub hears : List Call → ℕ → Bool
 hears [] x = false
 hears (c ∷ cs) x = hearsIn c cs x || hears cs x
+
+-- a moment at which another hut knows what x saw, and from which that comes back to x
+pub record Back (cs : List Call) (x : ℕ) : Type 0 where
+  pub later : List Call
+  pub earlier : List Call
+  pub whole : later ++ earlier ≡ cs
+  pub hut : ℕ
+  pub other : hut ≡ x → ⊥
+  pub out : T (knows earlier hut x)
+  pub back : T (knows later x hut)
+
+-- A hut hears its own news exactly if there is such a moment.
+abbrev pub ComesBack : Type 0
+ComesBack = (cs : List Call) (x : ℕ) → T (hears cs x) ↔ Back cs x
 
 abbrev pub NobodyHears : ℕ → List Call → Type 0
 NobodyHears n cs = (x : ℕ) → x < n → hears cs x ≡ false

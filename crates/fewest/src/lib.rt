@@ -1,7 +1,7 @@
 // How many calls it takes at least, whatever they are. The statements stand in specs/, the proofs in proofs/.
 // Each function only returns 0: its contract is a theorem, and the crate is proved only with its proof.
 ghost use Rattle.fewest.specs.Fewest.{NoneFewer, AsManyAsHuts, OneToAll, AllToOne};
-ghost use Rattle.fewest.specs.Own.{HearingCosts, FirstAndLast};
+ghost use Rattle.fewest.specs.Own.{ComesBack, HearingCosts, FirstAndLast};
 
 // What one hut saw takes a call for each other hut to come to everybody.
 pub fn one_to_all() -> u8
@@ -27,6 +27,13 @@ pub fn as_many_as_huts() -> u8
 // From four huts on there are at least 2n - 4 calls, whatever they are.
 pub fn none_fewer() -> u8
     ensures { λ _. ⌜ NoneFewer ⌝ }
+{
+    0
+}
+
+// A hut hears its own news exactly if at some moment another hut knows it from which it comes back.
+pub fn own_news() -> u8
+    ensures { λ _. ⌜ ComesBack ⌝ }
 {
     0
 }
