@@ -17,7 +17,8 @@ const HELP: &str = "usage: plan HUTS
        plan --help | --version
 
 Prints the plan of calls for HUTS huts, 1 to 1024, that can all call each other:
-after these calls, in their order, every hut knows what every hut saw.
+after these calls, in their order, every hut knows what every hut saw, and no
+list of calls whatever brings that about with fewer.
 Each line is a call, the caller first: '0 4' says that hut 0 calls hut 4. Then
 comes 'square A B C D', the four huts in the middle, or 'no square' below four
 huts, and last the number of calls.
