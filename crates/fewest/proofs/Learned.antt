@@ -48,13 +48,14 @@ pub learns-one : (x w v : ℕ) (c : Call) (es : List Call) → learns x w c es �
 learns-one x w v c es p q =
     let s : Source x w c es = source x w c es p in
     let t : Source x v c es = source x v c es q in
-    let same : s .hut ≡ v → ⊥ = λ e. let k = rw e at (s .knew) in let l = t .lacked in grind arith in
-    let a = s .gives in
-    let b = s .gets in
-    let c = t .gets in
-    let d = s .differ in
+    let not-v : s .hut ≡ v → ⊥ = λ e. let k = rw e at (s .knew) in let l = t .lacked in grind arith in
+    let not-w = s .differ in
+    let in-hut = s .gives in
+    let in-w = s .gets in
+    let in-v = t .gets in
     grind (arith, tells)
 
+-- who learns it is one of the two
 pub learned-from : (x w : ℕ) (c : Call) (es : List Call) → learns x w c es ≡ true → learned x c es ≡ true
 unfolding learned
 learned-from x w c es h =
@@ -79,6 +80,7 @@ spreads n x cs all =
     in
     omega arith
 
+-- a call of which somebody learns it is a call
 learned-most : (x : ℕ) (cs : List Call) → total (λ l c r. bit (learned x c r)) [] cs ≤ length cs
 learned-most x cs =
     let all = total-const 1 [] cs in
