@@ -1,7 +1,7 @@
 -- Laws of what huts know. Assumes nothing.
 use mathlib.Core.Path.{_≡_, refl}
 use mathlib.Core.Bool.{true, false}
-use mathlib.Core.List.{List, [], _∷_, _++_}
+use mathlib.Core.List.{List, [], _∷_, _++_, reverse, reverse-cons, reverse-reverse}
 use mathlib.Core.Logic.{_⊎_, inl, inr}
 use Prim.Native.Nat.{ℕ}
 use native.Mathlib.Omega.{arith}
@@ -9,7 +9,7 @@ use lib.Dec.{T, eqb→eq, eqb-refl}
 use Rattle.std.proofs.shelf.Tests.{cases-bool}
 use Rattle.std.proofs.shelf.Ways.{tells}
 use Rattle.calls.specs.Call.{Call, knows, with-either, busy, none, same, more}
-use Rattle.calls.specs.Law.{Onward, Robust, Swap, Composes, Between}
+use Rattle.calls.specs.Law.{Onward, Robust, Swap, Composes, Between, Turned}
 
 pub onward : Onward
 unfolding knows
@@ -104,6 +104,20 @@ composes (c ∷ later) earlier i k =
           let f : From c later i (b .hut) = knows-from later c i (b .hut) (b .after) in
           passes c later i (b .hut) f (later ++ earlier) k (composes later earlier (f .hut) k .whole (record { hut = b .hut; after = f .knew; before = b .before }));
     }
+
+turned-from : (cs : List Call) (i k : ℕ) → T (knows cs i k) → T (knows (reverse cs) k i)
+unfolding knows
+turned-from [] i k t = grind (arith, tells)
+turned-from (c ∷ cs) i k t =
+    let f : From c cs i k = knows-from cs c i k t in
+    let first : T (knows (c ∷ []) (f .hut) i) = rw (alike c cs i k f [] i) (knows-own (c ∷ []) i) in
+    rw (reverse-cons c cs) (composes (reverse cs) (c ∷ []) k i .whole (record { hut = f .hut; after = turned-from cs (f .hut) k (f .knew); before = first }))
+
+pub turned : Turned
+turned cs i k =
+    let forth = turned-from cs i k in
+    let back : T (knows (reverse cs) k i) → T (knows cs i k) = λ t. rw (reverse-reverse cs) at (turned-from (reverse cs) k i t) in
+    grind arith
 
 -- a hut in no call knows only what it saw itself, and no other knows that
 pub idle-knows : (cs : List Call) (i k : ℕ) → busy i cs ≡ false → T (knows cs i k) → i ≡ k

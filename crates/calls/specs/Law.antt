@@ -1,7 +1,7 @@
 -- Laws of what huts know: each is a type, and its proof is the theorem. Assumes nothing.
 use mathlib.Core.Path.{_≡_}
 use mathlib.Core.Bool.{false}
-use mathlib.Core.List.{List, _∷_, _++_}
+use mathlib.Core.List.{List, _∷_, _++_, reverse}
 use Prim.Native.Nat.{ℕ}
 use lib.Dec.{T}
 use Rattle.calls.specs.Call.{Call, knows, with-either, Holds}
@@ -32,3 +32,7 @@ pub record Composed (later earlier : List Call) (i k : ℕ) : Type 0 where
 
 abbrev pub Composes : Type 0
 Composes = (later earlier : List Call) (i k : ℕ) → Composed later earlier i k
+
+-- In turned time, the same calls made in the opposite order, what came from k to i goes from i to k.
+abbrev pub Turned : Type 0
+Turned = (cs : List Call) (i k : ℕ) → knows (reverse cs) k i ≡ knows cs i k

@@ -2,7 +2,7 @@
 // A function that only returns 0 is a theorem: its contract states it, and the crate is proved only with its proof.
 ghost use mathlib.Core.Path.{_≡_};
 ghost use Rattle.calls.specs.Call.{hutCount};
-ghost use Rattle.calls.specs.Law.{Onward, Robust, Swap, Composes};
+ghost use Rattle.calls.specs.Law.{Onward, Robust, Swap, Composes, Turned};
 ghost use Rattle.calls.specs.Number.{Written};
 
 // The most huts that there can be.
@@ -39,6 +39,13 @@ pub fn calls_apart_change_places() -> u8
 // What happens before and after a moment composes.
 pub fn before_and_after_compose() -> u8
     ensures { λ _. ⌜ Composes ⌝ }
+{
+    0
+}
+
+// In turned time news goes the other way.
+pub fn turned_time_turns_news() -> u8
+    ensures { λ _. ⌜ Turned ⌝ }
 {
     0
 }

@@ -14,10 +14,9 @@ use lib.ListN.{length, length-reverseAux}
 use Rattle.std.proofs.shelf.Tests.{cases-bool, cases-eq}
 use Rattle.std.proofs.shelf.Ways.{tells}
 use Rattle.calls.specs.Call.{Call, knows, with-either}
-use Rattle.calls.proofs.Known.{knows-from, From}
+use Rattle.calls.proofs.Known.{knows-from, From, turned}
 use Rattle.fewest.specs.Fewest.{OneToAll, AllToOne}
 use Rattle.fewest.proofs.Counts.{bit, many-others, many-one, whole, total, total-const, total-mono, two-ways, begins, counted}
-use Rattle.fewest.proofs.Moments.{turned}
 
 unfoldable pub learns : ℕ → ℕ → Call → List Call → Bool
 learns x w c es = knows (c ∷ es) w x && not (knows es w x)
@@ -92,6 +91,6 @@ one-to-all n cs i l all = let count = spreads n i cs all in let most = learned-m
 
 pub all-to-one : AllToOne
 all-to-one n cs i l all =
-    let count = one-to-all n (whole cs []) i l (λ k p. turned cs i k (all k p)) in
+    let count = one-to-all n (whole cs []) i l (λ k p. rw (turned cs i k) (all k p)) in
     let size : length (whole cs []) ≡ length cs + 0 = length-reverseAux cs [] in
     omega arith

@@ -1,4 +1,4 @@
--- Moments of a list of calls, and the same list in turned time. Assumes nothing.
+-- Moments of a list of calls, and own news that comes back. Assumes nothing.
 --     Via ts es i k      a hut that knew of k at the moment, and from which it came to i afterwards
 --     Moment n ts es     at the moment between es and ts: whatever i knows in the end comes to it so, and nobody gets its own news back
 --     Quiet n cs         every moment of cs is such
@@ -14,7 +14,8 @@ use lib.Dec.{eqb, T, eqb→eq}
 use Rattle.std.proofs.shelf.Tests.{cases-bool, cases-eq}
 use Rattle.std.proofs.shelf.Ways.{tells}
 use Rattle.calls.specs.Call.{Call, knows, with-either, among, AllKnow}
-use Rattle.calls.proofs.Known.{onward, knows-own, knows-same, knows-from, From, alike}
+use Rattle.calls.specs.Law.{Between}
+use Rattle.calls.proofs.Known.{onward, knows-own, knows-same, knows-from, From, alike, composes, turned}
 use Rattle.fewest.specs.Own.{toldBy, hearsIn, hears, Back, ComesBack, NobodyHears}
 use Rattle.fewest.proofs.Counts.{whole}
 
@@ -24,18 +25,9 @@ pub record Via (ts es : List Call) (i k : ℕ) : Type 0 where
   pub before : T (knows es hut k)
 
 pub via : (ts es : List Call) (i k : ℕ) → T (knows (whole ts es) i k) → Via ts es i k
-via [] es i k t = record { hut = i; after = knows-own [] i; before = t }
-via (c ∷ ts) es i k t =
-    let v = via ts (c ∷ es) i k t in
-    let f = knows-from es c (v .hut) k (v .before) in
-    record { hut = f .hut; after = rw (alike c es (v .hut) k f ts i) (onward ts c (v .hut) i (v .after)); before = f .knew }
-
--- in turned time k knows of i what i knows of k
-pub turned : (cs : List Call) (i k : ℕ) → T (knows cs i k) → T (knows (whole cs []) k i)
-unfolding knows
-turned cs i k t =
-    let v : Via (whole cs []) [] i k = via (whole cs []) [] i k (rw (reverseAux-reverseAux-nil cs []) t) in
-    rw (eqb→eq (v .hut) k (v .before)) at (v .after)
+via ts es i k t =
+    let b : Between (reverse ts) es i k = composes (reverse ts) es i k .parts (rw (reverseAux-eq ts es) at t) in
+    record { hut = b .hut; after = rw (turned ts (b .hut) i) at (b .after); before = b .before }
 
 -- the calls before and after a moment as they stand in the list
 pub whole-append : (later earlier : List Call) → whole (whole later []) earlier ≡ later ++ earlier
@@ -96,7 +88,7 @@ pub own-news : ComesBack
 own-news cs x = (
   back-from cs x,
   λ b. rw (whole-append (b .later) (b .earlier) ∙ b .whole) at
-      (comes-back (whole (b .later) []) (b .earlier) x (b .hut) (b .other) (b .out) (turned (b .later) x (b .hut) (b .back))),
+      (comes-back (whole (b .later) []) (b .earlier) x (b .hut) (b .other) (b .out) (rw (turned (b .later) x (b .hut)) (b .back))),
 )
 
 pub record Moment (n : ℕ) (ts es : List Call) : Type 0 where
