@@ -55,7 +55,7 @@ learns-one x w v c es p q =
     grind (arith, tells)
 
 -- who learns it is one of the two
-pub learned-from : (x w : ℕ) (c : Call) (es : List Call) → learns x w c es ≡ true → learned x c es ≡ true
+learned-from : (x w : ℕ) (c : Call) (es : List Call) → learns x w c es ≡ true → learned x c es ≡ true
 unfolding learned
 learned-from x w c es h =
     elim (cases-eq w (c .a)) [

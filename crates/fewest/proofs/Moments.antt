@@ -24,7 +24,7 @@ pub record Via (ts es : List Call) (i k : ℕ) : Type 0 where
   pub after : T (knows ts hut i)
   pub before : T (knows es hut k)
 
-pub via : (ts es : List Call) (i k : ℕ) → T (knows (whole ts es) i k) → Via ts es i k
+via : (ts es : List Call) (i k : ℕ) → T (knows (whole ts es) i k) → Via ts es i k
 via ts es i k t =
     let b : Between (reverse ts) es i k = composes (reverse ts) es i k .parts (rw (reverseAux-eq ts es) at t) in
     record { hut = b .hut; after = rw (turned ts (b .hut) i) at (b .after); before = b .before }
@@ -40,7 +40,7 @@ hears-later [] es x t = t
 hears-later (c ∷ ts) es x t = hears-later ts (c ∷ es) x (grind arith)
 
 -- If at some moment another hut knows what x saw, and that comes to x afterwards, then x hears its own news.
-pub comes-back : (ts es : List Call) (x w : ℕ) → (w ≡ x → ⊥) → T (knows es w x) → T (knows ts w x) → T (hears (whole ts es) x)
+comes-back : (ts es : List Call) (x w : ℕ) → (w ≡ x → ⊥) → T (knows es w x) → T (knows ts w x) → T (hears (whole ts es) x)
 unfolding knows hears
 comes-back [] es x w other before after = absurd (other (eqb→eq w x after))
 comes-back (c ∷ ts) es x w other before after =

@@ -1,7 +1,7 @@
 // Plans: lists of calls that bring everything to everybody.
 ghost use mathlib.Core.Path.{_≡_};
 ghost use mathlib.Core.List.{_++_};
-ghost use Prim.Native.Nat.{_-_, _≤_, _<_};
+ghost use Prim.Native.Nat.{_-_, _<_};
 ghost use lib.Chars.{codes};
 ghost use Rattle.std.specs.Of.Vec.{vec-items};
 ghost use Rattle.std.specs.Results.{Cases};
@@ -76,9 +76,8 @@ pub impl fmt::Display for Plan as PlanDisplay {
     }
 }
 
-// Hut 0 calls huts 4 to n - 1, in this order.
+// Hut 0 calls huts 4 to n - 1, in this order; none, if there are no more than four.
 fn push_hub(calls: &mut Vec<u16>, n: u16) -> Result<(), Fault>
-    requires { ⌜ 4 ≤ n ⌝ }
     ensures { λ r. ⌜ Cases r (λ _. vec-items (now (calls .exit)) ≡ vec-items (now (calls .entry)) ++ numbers (hub (n - 4))) (λ f. f ≡ Memory) ⌝ }
 {
     for hut in 4..n {
@@ -137,8 +136,8 @@ pub fn for_huts(heap: Global, n: u16) -> Result<Plan, Fault>
         calls.extend_from_slice(few(n))?;
         return Ok(with_square(calls, n));
     }
-    push_hub(&mut calls, n)?;
+    push_hub(&mut calls, n)?; // hut 0 hears from huts 4 to n - 1
     calls.extend_from_slice(&[0, 1, 2, 3, 0, 2, 1, 3])?;
-    push_hub(&mut calls, n)?;
+    push_hub(&mut calls, n)?; // and tells them
     Ok(with_square(calls, n))
 }

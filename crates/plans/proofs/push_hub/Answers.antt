@@ -10,7 +10,7 @@ use Rattle.plans.proofs.push_hub.Needs as need
 
 pub loop-hut-holds : need.loop-hut-holds
 unfolding hub numbers
-loop-hut-holds c = sym (append-nil (vec-items (c .args .calls .now)))
+loop-hut-holds c = (sym (append-nil (vec-items (c .args .calls .now))), omega arith)
 
 pub loop-hut-again : need.loop-hut-again
 loop-hut-again c =
@@ -18,7 +18,7 @@ loop-hut-again c =
     let pushed = c .in-Continue-extend-from-slice .ensures tt .items in
     let one-more = numbers-hub-more hut (omega arith) in
     let regrouped = append-assoc (vec-items (c .args .calls .now)) (numbers (hub (hut - 4))) (0 ∷ (hut ∷ [])) in
-    cc
+    (cc, omega arith)
 
 pub returns : need.returns
-returns c = let all : c .loop-hut .hut ≡ c .args .n = omega arith in cc
+returns c = let all : c .loop-hut .hut - 4 ≡ c .args .n - 4 = omega arith in cc
