@@ -1,5 +1,7 @@
 // Calls, and the laws of what huts know after them. The definitions stand in specs/, the proofs in proofs/.
 // A function that only returns 0 is a theorem: its contract states it, and the crate is proved only with its proof.
+#![tactic(auto)]
+
 ghost use Rattle.std.specs.Prelude.{◌≡◌};
 ghost use Rattle.calls.specs.Call.{hut_count};
 ghost use Rattle.calls.specs.Law.{Onward, Robust, Swap, Composes, Turned};

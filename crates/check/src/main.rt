@@ -1,4 +1,6 @@
 // Says what a list of calls comes to among huts with the lines that a text lists, beside the number of calls of the plan.
+#![tactic(auto)]
+
 ghost use Rattle.check.specs.Printed.{Prints, Answered};
 
 use checks::Wrong;

@@ -1,4 +1,6 @@
 // A list of calls held to the lines: what it comes to, beside the plan for these lines.
+#![tactic(auto)]
+
 ghost use Rattle.std.specs.Prelude.{◌≡◌, length, Some};
 ghost use Rattle.rows.specs.Rows.{told};
 ghost use Rattle.checks.specs.Answer.{Counts, Checks, report_shown};

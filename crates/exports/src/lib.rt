@@ -1,4 +1,6 @@
 // What callers in C and Rust can call.
+#![tactic(auto)]
+
 ghost use Rattle.std.specs.Prelude.{◌≡◌};
 ghost use Rattle.exports.specs.Code.{code_of, Told};
 

@@ -1,4 +1,6 @@
 // What can be wrong with an input, each fault with its number, and want of memory beside them.
+#![tactic(auto)]
+
 ghost use Rattle.std.specs.Prelude.{◌≡◌, Some};
 ghost use Rattle.faults.specs.Fault.{number_of, hut_of, cause_of, shown_of};
 ghost use Rattle.faults.specs.declared.Fault.TheVariants.{Memory};

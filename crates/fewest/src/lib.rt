@@ -1,5 +1,7 @@
 // How many calls it takes at least, whatever they are. The statements stand in specs/, the proofs in proofs/.
 // Each function only returns 0: its contract is a theorem, and the crate is proved only with its proof.
+#![tactic(auto)]
+
 ghost use Rattle.fewest.specs.Fewest.{NoneFewer, AsManyAsHuts, OneToAll, AllToOne};
 ghost use Rattle.fewest.specs.Own.{ComesBack, HearingCosts, FirstAndLast};
 

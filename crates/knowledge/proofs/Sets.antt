@@ -14,8 +14,8 @@ abbrev bit : ℕ → ℕ → Bool
 bit w j = eqb (w / 2 ^ j % 2) 1
 
 -- a bit of two words that are joined by or
-pub bit_or : (a b j : ℕ) → bit (bit_or a b) j ≡ (bit a j || bit b j)
-bit_or a b j =
+pub bit_of_or : (a b j : ℕ) → bit (bit_or a b) j ≡ (bit a j || bit b j)
+bit_of_or a b j =
     let x = a / 2 ^ j in
     let y = b / 2 ^ j in
     let e : bit_or a b / 2 ^ j ≡ bit_or x y = or_shr a b j in
@@ -99,7 +99,7 @@ has_set_or ws vs i l k =
     elim (cases_eq (k / 64) i) [
       | inl same ↦
           let e : get_or (set ws i w) (k / 64) 0 ≡ bit_or (get_or ws (k / 64) 0) (get_or vs (k / 64) 0) = rw same (get_or-set_same ws i w 0 l) in
-          let b = bit_or (get_or ws (k / 64) 0) (get_or vs (k / 64) 0) (k % 64) in
+          let b = bit_of_or (get_or ws (k / 64) 0) (get_or vs (k / 64) 0) (k % 64) in
           rw e (grind (arith, tells))
       | inr apart ↦ rw (get_or-set_other ws i (k / 64) w 0 apart) (grind (arith, tells))
     ]

@@ -1,4 +1,6 @@
 // Who knows what after a list of calls.
+#![tactic(auto)]
+
 ghost use Rattle.std.specs.Prelude.{◌≡◌, ℕ, ◌-◌, ◌*◌, ◌%◌, ◌^◌, ◌<◌, ◌≤◌, ◌||◌, T, List, [], ◌∷◌, length, Some, MatchResult, ◌==◌, ◌≢◌, slice_index};
 ghost use Rattle.calls.specs.Call.{Call, call};
 ghost use Rattle.faults.specs.declared.Fault.TheVariants.{Memory};

@@ -1,5 +1,5 @@
 -- The prescribed plan does it: along the lines, with as many calls as promised. Assumes nothing.
-use Rattle.std.proofs.Common.{◌≡◌, ℕ, ◌+◌, ◌-◌, ◌<◌, true, T, eqb, List, [], ◌∷◌, ◌++◌, length, drop, Some, None, Option, sym, refl, subst, inl, inr, arith}
+use Rattle.std.proofs.Common.{◌≡◌, ℕ, ◌-◌, ◌<◌, true, T, eqb, List, [], ◌∷◌, ◌++◌, length, drop, Some, None, Option, sym, refl, subst, inl, inr, arith}
 use Rattle.std.proofs.lemmas.Bool.{cases_eq}
 use Rattle.std.proofs.lemmas.Bool.Decides.{nat_tests}
 use Rattle.calls.specs.Call.{call, knows, among, AllKnow}

@@ -1,5 +1,7 @@
 // Lists of lines, and the plan for huts of which some have no line between them. The definitions stand in specs/, the proofs in proofs/.
 // A function that only returns 0 is a theorem: its contract states it, and the crate is proved only with its proof.
+#![tactic(auto)]
+
 ghost use Rattle.lines.specs.Law.{LinesSound, JoinedByWay, DistanceShortest, SmallestSquare, RowSorted, PartnerNearest, PlanDoes};
 
 // Lines without a fault go both ways, between different huts that are there.

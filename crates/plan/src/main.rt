@@ -1,4 +1,6 @@
 // Prints the plan of calls for a number of huts that can all call each other.
+#![tactic(auto)]
+
 ghost use Rattle.std.specs.Prelude.{◌≡◌};
 ghost use Rattle.plan.specs.Argument.{number_in};
 ghost use Rattle.plan.specs.Printed.{Prints, Answered};

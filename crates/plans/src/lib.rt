@@ -1,4 +1,6 @@
 // Plans: lists of calls that bring everything to everybody.
+#![tactic(auto)]
+
 ghost use Rattle.std.specs.Prelude.{◌≡◌, ◌-◌, ◌<◌, ◌++◌, Some, codes, MatchResult};
 ghost use Rattle.faults.specs.declared.Fault.TheVariants.{Memory};
 ghost use Rattle.calls.specs.Number.{numbers};

@@ -1,12 +1,12 @@
 -- The prescribed plan and the test of a list are what they must be. Assumes nothing.
-use Rattle.std.proofs.Common.{◌≡◌, ℕ, ◌-◌, ◌*◌, ◌<◌, ◌≤◌, true, ◌&&◌, T, List, length, is_some, Some, None, Option, refl, arith}
+use Rattle.std.proofs.Common.{◌≡◌, ℕ, ◌-◌, ◌*◌, ◌≤◌, true, List, length, is_some, Some, None, Option, arith}
 use Rattle.std.proofs.lemmas.Bool.Decides.{nat_tests}
 use Rattle.calls.specs.Call.{Call}
 use Rattle.promises.proofs.All.{all_know_true, true_all_know}
 use Rattle.plans.specs.declared.Square as plans
 use Rattle.lines.specs.Line.{Lines}
-use Rattle.lines.specs.Square.{Round, square, Smallest, smallest}
-use Rattle.lines.specs.Plan.{plan, Joins, Count, Does}
+use Rattle.lines.specs.Square.{Smallest, smallest}
+use Rattle.lines.specs.Plan.{plan, Joins, Count}
 use Rattle.lines.proofs.Laws.{joined_by_way, smallest-square}
 use Rattle.lines.proofs.Main.{plan-does}
 use Rattle.lines.proofs.Squares.{smallest_is}

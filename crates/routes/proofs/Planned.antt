@@ -8,7 +8,7 @@ use Rattle.plans.specs.declared.Square.{Square}
 use Rattle.sets.specs.declared.HutSet.{HutSet}
 use Rattle.sets.specs.Set.{in_set, Lowest}
 use Rattle.lines.specs.Line.{Lines, line, wrong}
-use Rattle.lines.specs.Way.{within, distance, joined}
+use Rattle.lines.specs.Way.{distance, joined}
 use Rattle.lines.specs.Row.{partner}
 use Rattle.lines.specs.Order.{every}
 use Rattle.lines.specs.Square.{square, SmallestBy, Smallest, smallest}

@@ -1,4 +1,6 @@
 // Plans for huts of which some have no line between them.
+#![tactic(auto)]
+
 ghost use Rattle.std.specs.Prelude.{◌≡◌, ℕ, ◌-◌, ◌<◌, ◌≤◌, true, false, ◌||◌, ◌++◌, length, drop, Some, None, MatchResult, ◌==◌, nat_eq, nat_lt};
 ghost use Rattle.faults.specs.declared.Fault.TheVariants.{Memory};
 ghost use Rattle.calls.specs.Number.{numbers};

@@ -1,4 +1,6 @@
 // Lines as rows: for each hut the set of its neighbours.
+#![tactic(auto)]
+
 ghost use Rattle.std.specs.Prelude.{◌≡◌, ℕ, ◌<◌, ◌≤◌, true, false, ◌||◌, length, None, MatchResult};
 ghost use Rattle.faults.specs.declared.Fault.TheVariants.{Memory};
 ghost use Rattle.lines.specs.Line.{line, fault_of, wrong};

@@ -16,8 +16,8 @@ abbrev bit : ℕ → ℕ → Bool
 bit w j = eqb (w / 2 ^ j % 2) 1
 
 -- a bit of two words that are joined by or
-pub bit_or : (a b j : ℕ) → bit (bit_or a b) j ≡ (bit a j || bit b j)
-bit_or a b j =
+pub bit_of_or : (a b j : ℕ) → bit (bit_or a b) j ≡ (bit a j || bit b j)
+bit_of_or a b j =
     let x = a / 2 ^ j in
     let y = b / 2 ^ j in
     let e : bit_or a b / 2 ^ j ≡ bit_or x y = or_shr a b j in
@@ -25,8 +25,8 @@ bit_or a b j =
     grind (arith, tells)
 
 -- a bit of two words that are joined by and
-pub bit_and : (a b j : ℕ) → bit (bit_and a b) j ≡ (bit a j && bit b j)
-bit_and a b j =
+pub bit_of_and : (a b j : ℕ) → bit (bit_and a b) j ≡ (bit a j && bit b j)
+bit_of_and a b j =
     let x = a / 2 ^ j in
     let y = b / 2 ^ j in
     let e : bit_and a b / 2 ^ j ≡ bit_and x y = and_shr a b j in
@@ -120,7 +120,7 @@ has_insert ws h l k =
     elim (cases_eq (k / 64) (h / 64)) [
       | inl same ↦
           let e : get_or (set ws (h / 64) w) (k / 64) 0 ≡ bit_or (get_or ws (k / 64) 0) (2 ^ (h % 64)) = rw same (get_or-set_same ws (h / 64) w 0 l) in
-          let b = bit_or (get_or ws (k / 64) 0) (2 ^ (h % 64)) (k % 64) in
+          let b = bit_of_or (get_or ws (k / 64) 0) (2 ^ (h % 64)) (k % 64) in
           let o = bit_one (h % 64) (k % 64) in
           rw e (grind (arith, tells))
       | inr apart ↦ rw (get_or-set_other ws (h / 64) (k / 64) w 0 apart) (grind (arith, tells))
@@ -134,7 +134,7 @@ has_set_or ws vs i l k =
     elim (cases_eq (k / 64) i) [
       | inl same ↦
           let e : get_or (set ws i w) (k / 64) 0 ≡ bit_or (get_or ws (k / 64) 0) (get_or vs (k / 64) 0) = rw same (get_or-set_same ws i w 0 l) in
-          let b = bit_or (get_or ws (k / 64) 0) (get_or vs (k / 64) 0) (k % 64) in
+          let b = bit_of_or (get_or ws (k / 64) 0) (get_or vs (k / 64) 0) (k % 64) in
           rw e (grind (arith, tells))
       | inr apart ↦ rw (get_or-set_other ws i (k / 64) w 0 apart) (grind (arith, tells))
     ]
@@ -210,7 +210,7 @@ both s t i = bit_and (get_or s.words i 0) (get_or t.words i 0)
 -- a hut is in both sets exactly if they have both its bit
 pub in_both : (s t : HutSet) (k i j : ℕ) → k < 1024 → k / 64 ≡ i → k % 64 ≡ j → (in_set s k && in_set t k) ≡ bit (both s t i) j
 in_both s t k i j l word place =
-    let b = bit_and (get_or s.words i 0) (get_or t.words i 0) j in
+    let b = bit_of_and (get_or s.words i 0) (get_or t.words i 0) j in
     let x : has s.words k ≡ bit (get_or s.words i 0) j = rw place at (has_in s.words k (get_or s.words i 0) (rw word refl)) in
     let y : has t.words k ≡ bit (get_or t.words i 0) j = rw place at (has_in t.words k (get_or t.words i 0) (rw word refl)) in
     rw (in_from_has s k l, in_from_has t k l, x, y, b) refl

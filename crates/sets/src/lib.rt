@@ -1,4 +1,6 @@
 // Sets of huts.
+#![tactic(auto)]
+
 ghost use Rattle.std.specs.Prelude.{◌≡◌, ℕ, ◌-◌, ◌*◌, ◌^◌, ◌<◌, ◌≤◌, false, ◌&&◌, ◌||◌, T, ◌==◌, ◌≢◌, nat_lt, slice_index};
 ghost use Rattle.sets.specs.Set.{in_set, Lowest, Meets, Next};
 

@@ -1,4 +1,6 @@
 // Lists of lines or of calls, read from text: the number of huts on the first line, then a pair of huts a line.
+#![tactic(auto)]
+
 ghost use Rattle.std.specs.Prelude.{◌≡◌, ◌+◌, ◌∷◌, length, Some};
 ghost use Rattle.texts.specs.Lines.{blank, lines_of, lines_after, words_of, words_with, trimmed_of};
 ghost use Rattle.texts.specs.Number.{number_in};

@@ -1,4 +1,6 @@
 // What the programs share: their command line, their input, what they say, and how they end.
+#![tactic(auto)]
+
 ghost use Rattle.std.specs.Prelude.{◌≡◌};
 ghost use Rattle.tool.specs.declared.Bad.TheVariants.{Unread as NotRead, Refused};
 

@@ -9,7 +9,7 @@ returns-in-Some c =
     wrong_here (length c.args.rows.now) (told c.args.rows.now) c.loop-left.left.now c.in-Some.fault (omega (arith, ltb-false)) (rw (c.from.ensures, c.from-in-len2-up.ensures) at c.in-Some.ensures) ∙ c.loop-left.invariant
 
 pub loop-left-preserved : goal.loop-left-preserved
-loop-left-preserved c = wrong_later (length c.args.rows.now) (told c.args.rows.now) c.loop-left.left.now (omega (arith, ltb-false)) (rw (c.from.ensures, c.from-in-len2-up.ensures) at c.in-default-call-fault.ensures) ∙ c.loop-left.invariant
+loop-left-preserved c = wrong_later (length c.args.rows.now) (told c.args.rows.now) c.loop-left.left.now (omega (arith, ltb-false)) (rw (c.from.ensures, c.from-in-len2-up.ensures) at c.in_default-call_fault.ensures) ∙ c.loop-left.invariant
 
 pub returns : goal.returns
 returns c = wrong_none (length c.args.rows.now) (told c.args.rows.now) c.loop-left.left.now (omega (arith, ltb-true)) ∙ c.loop-left.invariant

@@ -6,17 +6,17 @@ use Rattle.knowledge.proofs.Runs.{caller_there, called_there, reached_none, reac
 use Rattle.knowledge.proofs.follow.Goals as goal
 
 pub loop-low-init : goal.loop-low-init
-loop-low-init c = reached_none c.args.n c.args.calls.now c.args.rows.now c.first-lacking-low.result c.requires.stands c.requires.there c.first-lacking-low.ensures.behind
+loop-low-init c = reached_none c.args.n c.args.calls.now c.args.rows.now c.first_lacking-low.result c.requires.stands c.requires.there c.first_lacking-low.ensures.behind
 
-pub returns-in-default : goal.returns-in-default
-returns-in-default c =
+pub returns-in_default : goal.returns-in_default
+returns-in_default c =
     record {
       says =
-          lack_from_reached c.args.n c.args.calls.now c.loop-low.left.now c.loop-low.rows c.loop-low.made c.loop-low.low c.lowest-missing.result c.loop-low.invariant
+          lack_from_reached c.args.n c.args.calls.now c.loop-low.left.now c.loop-low.rows c.loop-low.made c.loop-low.low c.lowest_missing.result c.loop-low.invariant
           c.loop-low-test.true
           (omega (arith, ltb-true))
           c.requires.pairs
-          c.lowest-missing.ensures.lowest;
+          c.lowest_missing.ensures.lowest;
     }
 
 pub join-requires : goal.join-requires
@@ -25,8 +25,8 @@ join-requires c =
     let e = called_there c.args.n c.loop-low.left.now c.loop-low.invariant.there (omega (arith, ltb-false)) in
     record { caller = omega arith; called = omega arith }
 
-pub overflow-add-made : goal.overflow-add-made
-overflow-add-made c = omega arith
+pub overflow_add-made : goal.overflow_add-made
+overflow_add-made c = omega arith
 
 pub loop-low-preserved : goal.loop-low-preserved
 loop-low-preserved c =
@@ -34,12 +34,12 @@ loop-low-preserved c =
     rw (take_rest c.loop-low.left.now 2)
     (
     reached_more c.args.n c.args.calls.now c.loop-low.left.now c.loop-low.rows c.join.new.rows c.loop-low.made c.loop-low.low
-    c.first-lacking-low-in-loop-low.result
+    c.first_lacking-low-in-loop-low.result
     c.loop-low.invariant
     c.loop-low-test.true
     (omega (arith, ltb-false))
     (rw (c.from.ensures, c.from-in-loop-low.ensures) at stands)
-    c.first-lacking-low-in-loop-low.ensures.behind
+    c.first_lacking-low-in-loop-low.ensures.behind
     )
 
 pub returns : goal.returns

@@ -12,5 +12,5 @@ pub returns-in-3 : goal.returns-in-3
 unfolding plan numbers
 returns-in-3 c = rw c.in-3.is
 
-pub returns-in-default : goal.returns-in-default
-returns-in-default c = numbers_none c.args.n (omega arith)
+pub returns-in_default : goal.returns-in_default
+returns-in_default c = numbers_none c.args.n (omega arith)

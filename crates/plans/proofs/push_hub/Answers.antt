@@ -11,7 +11,7 @@ loop-hut-init c = (sym (append-nil (vec_items c.args.calls.now)), omega arith)
 pub loop-hut-preserved : goal.loop-hut-preserved
 loop-hut-preserved c =
     let hut = c.loop-hut.hut in
-    let pushed = c.in-ok-extend-from-slice.ensures.items in
+    let pushed = c.in_ok-extend_from_slice.ensures.items in
     let one_more = numbers_hub_more hut (omega arith) in
     let regrouped = append_assoc (vec_items c.args.calls.now) (numbers (hub (hut - 4))) (0 ∷ (hut ∷ [])) in
     (cc, omega arith)

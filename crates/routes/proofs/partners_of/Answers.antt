@@ -5,7 +5,7 @@ use Rattle.routes.proofs.Partners.{every_at, partners_none, partners_more}
 use Rattle.routes.proofs.partners_of.Goals as goal
 
 pub loop-hut-init : goal.loop-hut-init
-loop-hut-init c = rw c.in-ok-partners.ensures.items (partners_none c.args.rows.now c.args.distances.now c.args.row.now)
+loop-hut-init c = rw c.in_ok-partners.ensures.items (partners_none c.args.rows.now c.args.distances.now c.args.row.now)
 
 pub bounds-rows-hut : goal.bounds-rows-hut
 bounds-rows-hut c =
@@ -20,7 +20,7 @@ partner-requires c =
 
 pub loop-hut-preserved : goal.loop-hut-preserved
 loop-hut-preserved c =
-    rw c.in-ok-push.ensures.items
+    rw c.in_ok-push.ensures.items
     (partners_more c.args.rows.now c.args.distances.now c.args.row.now (vec_items c.loop-hut.partners) c.loop-hut.hut-index c.partner.result c.loop-hut-test.true c.loop-hut.invariant
     (rw c.from-hut.ensures at c.partner.ensures))
 

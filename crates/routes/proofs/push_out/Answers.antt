@@ -5,7 +5,7 @@ use Rattle.routes.proofs.push_out.Goals as goal
 
 pub loop-i-preserved : goal.loop-i-preserved
 loop-i-preserved c =
-    rw c.in-ok-extend-from-slice.ensures.items
+    rw c.in_ok-extend_from_slice.ensures.items
     (outward_more (vec_items c.loop-i.calls) c.args.row.now c.args.partners.now (vec_items c.args.calls.now ++ outward c.args.row.now c.args.partners.now) c.loop-i.i
     c.loop-i-test.true
     c.requires.sizes

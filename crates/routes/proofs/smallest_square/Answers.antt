@@ -5,14 +5,14 @@ use Rattle.routes.proofs.smallest_square.Goals as goal
 
 pub loop-b-init : goal.loop-b-init
 loop-b-init c =
-    let next = c.next_b.ensures in
-    (c.search.invariant.0, next_b c.args.rows.now c.search.a (c.search.a + 1) c.next_b.result (below_b c.args.rows.now c.search.a) next, next.is)
+    let next = c.next-b.ensures in
+    (c.search.invariant.0, next_b c.args.rows.now c.search.a (c.search.a + 1) c.next-b.result (below_b c.args.rows.now c.search.a) next, next.is)
 
 pub loop-c-init : goal.loop-c-init
 loop-c-init c =
-    let next = c.next_c.ensures in (
+    let next = c.next-c.ensures in (
       c.loop-b.invariant.0,
-      next_c c.args.rows.now c.search.a c.loop-b.b (c.search.a + 1) c.next_c.result (below_c c.args.rows.now c.search.a c.loop-b.b) next,
+      next_c c.args.rows.now c.search.a c.loop-b.b (c.search.a + 1) c.next-c.result (below_c c.args.rows.now c.search.a c.loop-b.b) next,
       next.is,
     )
 

@@ -5,8 +5,8 @@ use Rattle.routes.specs.Pairs.{straight_written}
 use Rattle.routes.proofs.Planned.{reached_there, straight_plan}
 use Rattle.routes.proofs.without_square.Goals as goal
 
-pub partners-of-requires : goal.partners-of-requires
-partners-of-requires c =
+pub partners_of-requires : goal.partners_of-requires
+partners_of-requires c =
     let at = c.requires.reached in
     record {
       few = c.requires.few;
@@ -16,12 +16,12 @@ partners-of-requires c =
 
 pub returns : goal.returns
 returns c =
-    let found : Partners c.args.rows.now (vec_items c.args.near.now.distances) (vec_items c.args.near.now.row) (vec_items c.in-ok-partners.partners) =
-    rw (c.deref.ensures.value, c.deref-2.ensures.value) at c.in-ok-partners.ensures
+    let found : Partners c.args.rows.now (vec_items c.args.near.now.distances) (vec_items c.args.near.now.row) (vec_items c.in_ok-partners.partners) =
+    rw (c.deref.ensures.value, c.deref-2.ensures.value) at c.in_ok-partners.ensures
     in
-    MatchResult-weaker c.straight-calls.result c.straight-calls.ensures
+    MatchResult-weaker c.straight_calls.result c.straight_calls.ensures
     (λ v e.
-    let written : vec_items v ≡ straight_written (vec_items c.args.near.now.row) (vec_items c.in-ok-partners.partners) = rw (c.deref-3.ensures.value, c.deref-4.ensures.value) at e in
+    let written : vec_items v ≡ straight_written (vec_items c.args.near.now.row) (vec_items c.in_ok-partners.partners) = rw (c.deref-3.ensures.value, c.deref-4.ensures.value) at e in
     written
-    ∙ straight_plan c.args.rows.now None c.args.near.now.huts (vec_items c.args.near.now.distances) (vec_items c.args.near.now.row) (vec_items c.in-ok-partners.partners) c.requires.reached c.requires.joins found refl)
+    ∙ straight_plan c.args.rows.now None c.args.near.now.huts (vec_items c.args.near.now.distances) (vec_items c.args.near.now.row) (vec_items c.in_ok-partners.partners) c.requires.reached c.requires.joins found refl)
     (λ f e. e)

@@ -8,7 +8,7 @@ returns-in-Some c =
     wrong_here c.args.n c.loop-left.p c.loop-left.q c.loop-left.left.now c.in-Some.fault (omega (arith, ltb-false)) c.in-Some.ensures ∙ c.loop-left.invariant
 
 pub loop-left-preserved : goal.loop-left-preserved
-loop-left-preserved c = wrong_later c.args.n c.loop-left.p c.loop-left.q c.loop-left.left.now (omega (arith, ltb-false)) c.in-default-line-fault.ensures ∙ c.loop-left.invariant
+loop-left-preserved c = wrong_later c.args.n c.loop-left.p c.loop-left.q c.loop-left.left.now (omega (arith, ltb-false)) c.in_default-line_fault.ensures ∙ c.loop-left.invariant
 
 pub returns : goal.returns
 returns c = wrong_none c.args.n c.loop-left.p c.loop-left.q c.loop-left.left.now (omega (arith, ltb-true)) ∙ c.loop-left.invariant

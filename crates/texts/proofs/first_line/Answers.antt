@@ -18,4 +18,4 @@ returns c =
       | else-loop-end-test w ↦ before-all newline text end w.loop-end-test.false c.loop-end.invariant.0
     ]
     in
-    record { parts = cut_at newline text end _ _ found c.split-at.ensures.front c.split-at.ensures.back; size = omega arith }
+    record { parts = cut_at newline text end _ _ found c.split_at.ensures.front c.split_at.ensures.back; size = omega arith }

@@ -13,8 +13,8 @@ returns-clause-writes g c plain ok =
     _
     _
     _
-    c.as-slice.ensures.value
+    c.as_slice.ensures.value
     c.len.ensures
-    (c.in-ok-write-calls.ensures plain refl)
-    (λ then. c.in-ok-write-square.ensures then refl)
+    (c.in_ok-write_calls.ensures plain refl)
+    (λ then. c.in_ok-write_square.ensures then refl)
     (λ then. c.writeln.ensures.writes then ok)

@@ -11,6 +11,6 @@ returns-then-self-word-ne0 c =
 
 pub returns : goal.returns
 returns c =
-    meets_onward c.args.self.now c.args.other.now c.args.from (64 * (c.args.from / 64 + 1)) c.words-meet.result (omega arith)
+    meets_onward c.args.self.now c.args.other.now c.args.from (64 * (c.args.from / 64 + 1)) c.words_meet.result (omega arith)
     (word_apart c.args.self.now c.args.other.now c.args.from (c.args.from / 64) (c.args.from % 64) (omega arith) (omega arith) (omega arith) c.if-self-word-ne0.false)
-    c.words-meet.ensures
+    c.words_meet.ensures

@@ -7,6 +7,6 @@ returns-then-left-ne0 c = word_next c.args.self.now c.args.from (c.args.from / 6
 
 pub returns : goal.returns
 returns c =
-    next_onward c.args.self.now c.args.from (64 * (c.args.from / 64 + 1)) c.next-word.result (omega arith)
+    next_onward c.args.self.now c.args.from (64 * (c.args.from / 64 + 1)) c.next_word.result (omega arith)
     (word_without c.args.self.now c.args.from (c.args.from / 64) (c.args.from % 64) (omega arith) (omega arith) (omega arith) c.if-left-ne0.false)
-    c.next-word.ensures
+    c.next_word.ensures
