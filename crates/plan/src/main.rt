@@ -8,6 +8,7 @@ ghost use Rattle.plan.specs.Printed.{Prints, Answered};
 use faults::Fault;
 use std::alloc::Global;
 use std::io::{ErrorKind, Write};
+use std::process::ExitCode;
 use std::{env, fmt, io};
 
 const HELP: &str = "usage: plan HUTS
@@ -26,7 +27,7 @@ Status 0: done. Status 1: the number was refused, or the command line is wrong;
 then nothing is printed on standard output.
 ";
 
-const VERSION: &str = "plan 0.1.0, proved with rattle-kit-8b logic 7f726aa041520687
+const VERSION: &str = "plan 0.1.0, proved with rattle-kit-13f logic dac8208d650f15bf
 ";
 
 // What the command line asks for.
@@ -157,26 +158,26 @@ fn arguments(rt: &HostRuntime) -> io::Result<Vec<String>> {
     Ok(words)
 }
 
-fn main(rt: HostRuntime) -> Result<(), ()> {
+fn main(rt: HostRuntime) -> ExitCode {
     let words = match arguments(&rt) {
         Ok(words) => words,
         Err(e) => {
             let _ = eprintln!(rt; "plan: the arguments can't be read: {e}");
-            return Err(());
+            return ExitCode::FAILURE;
         }
     };
     let text = match answer(rt.alloc(), words.as_slice()) {
         Ok(text) => text,
         Err(failure) => {
             let _ = eprintln!(rt; "plan: {failure}");
-            return Err(());
+            return ExitCode::FAILURE;
         }
     };
     if let Err(e) = deliver(&rt, text.as_str()) {
         let _ = eprintln!(rt; "plan: {e}");
-        return Err(());
+        return ExitCode::FAILURE;
     }
-    Ok(())
+    ExitCode::SUCCESS
 }
 
 #[cfg(test)]

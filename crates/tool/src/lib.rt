@@ -7,11 +7,12 @@ ghost use Rattle.tool.specs.declared.Bad.TheVariants.{Unread as NotRead, Refused
 use faults::Fault;
 use std::alloc::{AllocError, Global};
 use std::io::{ErrorKind, Read, Write};
+use std::process::ExitCode;
 use std::{env, fmt, fs, io};
 use texts::Unread;
 
 // Of every program: its version, and what it is proved with.
-const VERSION: &str = "0.1.0, proved with rattle-kit-8b logic 7f726aa041520687";
+const VERSION: &str = "0.1.0, proved with rattle-kit-13f logic dac8208d650f15bf";
 
 // A program as its users meet it.
 #[derive(Clone, Copy)]
@@ -220,36 +221,32 @@ fn gathered(rt: &HostRuntime) -> io::Result<Vec<String>> {
     Ok(words)
 }
 
-// The words after the program's name.
-pub fn arguments(rt: &HostRuntime, program: Program) -> Result<Vec<String>, ()> {
+// The words after the program's name, or the status to end with.
+pub fn arguments(rt: &HostRuntime, program: Program) -> Result<Vec<String>, ExitCode> {
     match gathered(rt) {
         Ok(words) => Ok(words),
         Err(e) => {
             let name = program.name;
             let _ = eprintln!(rt; "{name}: the arguments can't be read: {e}");
-            Err(())
+            Err(ExitCode::FAILURE)
         }
     }
 }
 
 // Prints the answer on standard output, or on standard error why there is none.
-pub fn finish(
-    rt: &HostRuntime,
-    program: Program,
-    answer: Result<String, Failure<'_>>,
-) -> Result<(), ()> {
+pub fn finish(rt: &HostRuntime, program: Program, answer: Result<String, Failure<'_>>) -> ExitCode {
     let text = match answer {
         Ok(text) => text,
         Err(failure) => {
             let complaint = Complaint { program, failure };
             let _ = eprintln!(rt; "{complaint}");
-            return Err(());
+            return ExitCode::FAILURE;
         }
     };
     if let Err(e) = deliver(rt, text.as_str()) {
         let name = program.name;
         let _ = eprintln!(rt; "{name}: {e}");
-        return Err(());
+        return ExitCode::FAILURE;
     }
-    Ok(())
+    ExitCode::SUCCESS
 }

@@ -7,8 +7,8 @@ use Rattle.checks.specs.declared.Wrong.{Wrong}
 use Rattle.checks.specs.declared.Wrong.TheVariants.{Lines, Calls}
 use Rattle.checks.specs.Answer.{wrong_of, Reported, Checks, report_shown}
 use Rattle.tool.specs.declared.Bad.TheVariants.{Unread, Refused}
-use Rattle.check.specs.declared.Blame.{Blame}
-use Rattle.check.specs.declared.Blame.TheVariants.{First, Second}
+use Rattle.checker.specs.declared.Blame.{Blame}
+use Rattle.checker.specs.declared.Blame.TheVariants.{First, Second}
 
 -- the right report as it is told, where nothing is wrong; else what is, or want of memory
 abbrev pub Prints : ℕ → List ℕ → ℕ → List ℕ → Result (String Global) Wrong → Type 0

@@ -1,16 +1,17 @@
 // Says what a list of calls comes to among huts with the lines that a text lists, beside the number of calls of the plan.
 #![tactic(auto)]
 
-ghost use Rattle.check.specs.Printed.{Prints, Answered};
+ghost use Rattle.checker.specs.Printed.{Prints, Answered};
 
 use checks::Wrong;
 use faults::Fault;
 use std::alloc::Global;
+use std::process::ExitCode;
 use tool::{Bad, Failure, Program, Request};
 
-const CHECK: Program = Program {
-    name: "check",
-    usage: "usage: check --text LINES CALLS",
+const CHECKER: Program = Program {
+    name: "checker",
+    usage: "usage: checker --text LINES CALLS",
     about: "Says what a list of calls comes to: 'all know everything after 396 calls', if
 these are the fewest first calls of the list after which every hut knows what
 every hut saw; or 'hut 3 does not know of hut 7', the lowest hut that lacks
@@ -24,7 +25,7 @@ after it a call, the caller first, in the order in which they are made, 4096 at
 most. Empty lines are passed over. '-' for one of the two is standard input.
 
 Example: printf '3\\n0 1\\n1 2\\n' > lines
-         printf '3\\n0 1\\n1 2\\n0 1\\n' | check --text lines -
+         printf '3\\n0 1\\n1 2\\n0 1\\n' | checker --text lines -
 prints 'all know everything after 3 calls', then 'the plan has 3 calls'.
 
 Status 0: done. Status 1: a file was refused or can't be read, or the command
@@ -83,8 +84,8 @@ fn for_files<'a>(rt: &HostRuntime, lines: &'a str, calls: &'a str) -> Result<Str
 // What is printed on standard output.
 fn answer<'a>(rt: &HostRuntime, words: &'a [String]) -> Result<String, Failure<'a>> {
     let words = match tool::asked(words, true)? {
-        Request::Help => return tool::help(rt.alloc(), CHECK),
-        Request::Version => return tool::version(rt.alloc(), CHECK),
+        Request::Help => return tool::help(rt.alloc(), CHECKER),
+        Request::Version => return tool::version(rt.alloc(), CHECKER),
         Request::Words(words) => words,
     };
     if !words.text {
@@ -98,9 +99,11 @@ fn answer<'a>(rt: &HostRuntime, words: &'a [String]) -> Result<String, Failure<'
     }
 }
 
-fn main(rt: HostRuntime) -> Result<(), ()> {
-    let words = tool::arguments(&rt, CHECK)?;
-    tool::finish(&rt, CHECK, answer(&rt, &words))
+fn main(rt: HostRuntime) -> ExitCode {
+    match tool::arguments(&rt, CHECKER) {
+        Ok(words) => tool::finish(&rt, CHECKER, answer(&rt, &words)),
+        Err(status) => status,
+    }
 }
 
 #[cfg(test)]
@@ -111,8 +114,8 @@ mod tests {
     use tool::Complaint;
 
     const WRONG: &str = "
-usage: check --text LINES CALLS
-Try 'check --help' for more information.";
+usage: checker --text LINES CALLS
+Try 'checker --help' for more information.";
 
     // What two texts come to, each with a word for the one that is at fault.
     fn told(heap: Global, lines: &str, calls: &str) -> Result<String, AllocError> {
@@ -187,12 +190,12 @@ Try 'check --help' for more information.";
             for word in line.split(' ') {
                 words.push(String::from_str(heap, word)?)?;
             }
-            let program = CHECK;
+            let program = CHECKER;
             let told = match answer(&rt, words.as_slice()) {
                 Ok(text) => text,
                 Err(failure) => Complaint { program, failure }.to_string(heap)?,
             };
-            let text = format!(in heap; "check: {reason}{WRONG}")?;
+            let text = format!(in heap; "checker: {reason}{WRONG}")?;
             assert_eq!(rt; told.as_str(), text.as_str());
         }
         Ok(())
