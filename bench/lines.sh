@@ -1,14 +1,14 @@
 #!/usr/bin/env bash
 # How long `plan --text FILE` takes for 1,024 huts, beside bench/lines.rs, which does the same: the median of 21 runs each, whole processes, in
 # turns, after their outputs have been compared. Three lists: all lines; a random tenth of them; many lines and no square, so that the whole
-# search is done. Takes another program than target/bin/plan as its argument.
+# search is done. Takes another program than crates/plan/out/plan as its argument.
 set -eu
 export LC_ALL=C
 plan=${1:+$(realpath "$1")}
 cd "$(dirname "$0")/.."
 if [ -z "$plan" ]; then
-  plan=target/bin/plan
-  [ -x $plan ] || rt check plan > /dev/null
+  plan=crates/plan/out/plan
+  [ -x $plan ] || (cd crates/plan && rt run -- 1 > /dev/null)
 fi
 place=$(mktemp -d)
 trap 'rm -rf "$place"' EXIT

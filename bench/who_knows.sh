@@ -3,7 +3,9 @@
 # with two independent implementations on many lists of calls, and then how long each takes, in the same run.
 set -eu
 cd "$(dirname "$0")/.."
-kit=$(dirname "$(dirname "$(rt doc)")")
-rt staticlib exports > /dev/null
-rustc -O --edition 2024 -o target/who_knows bench/who_knows.rs -L target/staticlib -l static=exports -L "$kit/lib" -l static=rattle_c
-exec target/who_knows
+kit=$(dirname "$(rt doc)")
+(cd crates/exports && rt lib > /dev/null)
+place=$(mktemp -d)
+trap 'rm -rf "$place"' EXIT
+rustc -O --edition 2024 -o "$place/who_knows" bench/who_knows.rs -L crates/exports/out -l static=exports -L "$kit/c" -l static=libc_c
+"$place/who_knows"

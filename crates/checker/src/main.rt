@@ -16,7 +16,7 @@ const CHECKER: Program = Program {
 these are the fewest first calls of the list after which every hut knows what
 every hut saw; or 'hut 3 does not know of hut 7', the lowest hut that lacks
 any, and the lowest that it lacks. Then comes 'the plan has 396 calls': as many
-as 'plan --text LINES' prints.
+as the prescribed plan for these lines has.
 The first line of LINES has the number of huts, 1 to 1024, and each line after
 it a line between two huts, the lower hut first: '0 4'. They rise: each pair is
 higher than the one before it, by its first hut, or by its second if the first
