@@ -1,5 +1,5 @@
 -- Huts that call each other, and what they know. Assumes nothing.
---     hut_count n       n is a number of huts that there can be: 1 to 1,024, numbered from 0
+--     hut_count n      n is a number of huts that there can be: 1 to 1,024, numbered from 0
 --     Call             a call between two huts: hut a calls hut e
 --     knows cs i k     hut i knows what hut k saw, after the calls cs
 --     AllKnow n cs     each of the huts 0 to n - 1 knows what each of them saw: the list does it

@@ -1,9 +1,9 @@
 -- What is promised of a check of calls. Assumes nothing.
---     wrong_of n xs m ys    what is wrong with the lines xs among n huts, or else with the calls ys, which say that they are for m huts
+--     wrong_of n xs m ys   what is wrong with the lines xs among n huts, or else with the calls ys, which say that they are for m huts
 --     Counts n xs r        the answer r is how many calls the plan for the lines xs has, or the right refusal
 --     Reported n xs ys r   the report r is right for the lines xs among n huts and the calls ys
 --     Checks n xs m ys r   the answer r is the right report, or the right refusal
---     report_shown r        the two lines by which a report is told
+--     report_shown r       the two lines by which a report is told
 use Rattle.std.specs.Prelude.{◌≡◌, ℕ, ◌⊎◌, List, ◌++◌, length, Some, None, Ok, Err, codes, decimal, Option, Result}
 use Rattle.faults.specs.declared.Fault.{Fault}
 use Rattle.faults.specs.declared.Fault.TheVariants.{Memory}

@@ -1,5 +1,5 @@
 -- Counting: how many huts pass a test, sums over the places of a list of calls, and counting in two ways. Assumes nothing.
---     how_many f n         how many numbers below n pass the test f
+--     how_many f n        how many numbers below n pass the test f
 --     whole ts es         the list in which the calls es were made, the latest first, and then the calls ts, the next one first
 --     Places X            something for each place of a list: for a call c, the calls l after it, and the calls r before it
 --     total f ts es       the sum of f over the places of es, where the calls ts come after es

@@ -8,9 +8,9 @@
 --    is in the call, else x would hear its own news. So x is in three calls at least, and in one more for each idle place (balance).
 -- 2. Not every hut is in four calls (poor). So some x is in just three, and no place is idle for it.
 -- 3. Each hut has a first call and a last one, and a call is the first of two huts, the last of two, or in the middle: at most n - 5 are in the
---    middle (middle-few).
+--    middle (middle_few).
 -- 4. Each hut has a call between two others, and that place is not idle for x. Follow how the news of x came there, or goes on from there: the
---    hut is hit at some place (some-hit), which is in the middle or of x (on-the-way), and no two at one place (one_hit). So
+--    hut is hit at some place (some-hit), which is in the middle or of x (on_the_way), and no two at one place (one_hit). So
 --    n - 1 huts are hit at n - 5 places in the middle and three of x: too few.
 use Rattle.std.proofs.Common.{◌≡◌, ℕ, ◌+◌, ◌*◌, ◌<◌, ◌≤◌, Bool, true, false, not, ◌&&◌, ◌||◌, eqb, leb, List, [], ◌∷◌, length, refl, inl, inr, arith, eqb→eq}
 use Rattle.std.proofs.lemmas.Bool.{cases_Bool, cases_lt, leb-true, leb-false}

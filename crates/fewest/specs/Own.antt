@@ -1,8 +1,8 @@
 -- Huts that hear their own news. Assumes nothing.
 --     told_by v cs x       hut v, which is not x, knows what x saw, after the calls cs: in a call it tells x its own news
 --     hears_in c cs x      in the call c, made after the calls cs, hut x is told its own news
---     hears cs x          in some call of cs hut x is told its own news
---     NobodyHears n cs    none of the huts 0 to n - 1 is, in any call of cs
+--     hears cs x           in some call of cs hut x is told its own news
+--     NobodyHears n cs     none of the huts 0 to n - 1 is, in any call of cs
 use Rattle.std.specs.Prelude.{◌≡◌, ℕ, suc, ◌+◌, ◌<◌, ◌≤◌, Bool, false, not, ◌&&◌, ◌||◌, T, ◌↔◌, List, [], ◌∷◌, ◌++◌, length, ◌==◌}
 use Rattle.calls.specs.Call.{Call, knows, AllKnow, among, busy}
 

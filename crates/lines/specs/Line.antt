@@ -1,10 +1,10 @@
 -- Lists of lines between huts. Assumes nothing.
---     Lines               which huts have a line between them
---     line xs             the lines that the numbers xs stand for, two numbers each: a line goes both ways
---     after p q a e       the line a, e comes after the line p, q in a list that rises
---     fault_of n p q a e   the fault of the line a, e among n huts, where the line before it was p, q, if it has one
---     wrong_after n p q xs the fault of the first line of xs that is wrong among n huts, where the line before it was p, q
---     wrong n xs          the same from the start of a list
+--     Lines                 which huts have a line between them
+--     line xs               the lines that the numbers xs stand for, two numbers each: a line goes both ways
+--     after p q a e         the line a, e comes after the line p, q in a list that rises
+--     fault_of n p q a e    the fault of the line a, e among n huts, where the line before it was p, q, if it has one
+--     wrong_after n p q xs  the fault of the first line of xs that is wrong among n huts, where the line before it was p, q
+--     wrong n xs            the same from the start of a list
 use Rattle.std.specs.Prelude.{ℕ, Bool, false, cond, ◌&&◌, ◌||◌, List, [], ◌∷◌, Some, None, Option, ◌==◌, nat_lt}
 use Rattle.faults.specs.declared.Fault.{Fault}
 use Rattle.faults.specs.declared.Fault.TheVariants.{NoSuchHut, Unsorted}

@@ -3,7 +3,7 @@
 --     spread p rs cs    the calls cs, and then from the first of the row rs to the last each partner calls its hut
 --     round s           a calls b, c calls d, then a calls d, b calls c
 --     middle s          the four huts of the square, or hut 0 where there is none
---     plan_for n l o     the calls with the square o in the middle, or without one
+--     plan_for n l o    the calls with the square o in the middle, or without one
 --     plan n l          the whole: with the smallest square, if there is one
 --     Joins n l         the lines go both ways and join all huts
 --     Does n l o cs     the calls cs are along the lines, bring everything to everybody, and are as many as with the square o, or without

@@ -1,6 +1,6 @@
 -- The row of the huts that are not in the middle, and their partners. Assumes nothing.
 --     those f m           the numbers below m that pass the test f, in order
---     row_to n l mid d     the huts that are 1 to d lines from the middle: nearer ones first, lower ones first among equals
+--     row_to n l mid d    the huts that are 1 to d lines from the middle: nearer ones first, lower ones first among equals
 --     row n l mid         all of them
 --     partner n l mid i   the neighbour of hut i that is nearer to the middle by a line, the lowest if there are several
 use Rattle.std.specs.Prelude.{ℕ, zero, suc, ◌-◌, Bool, cond, ◌&&◌, List, [], ◌∷◌, ◌++◌, ◌==◌, nat_eq}

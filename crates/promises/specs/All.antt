@@ -1,6 +1,6 @@
 -- Whether all know everything, as a test. Assumes nothing.
---     all f n        every number below n passes the test f
---     all_know_test n cs   each of n huts knows what each of them saw, after the calls cs
+--     all f n             every number below n passes the test f
+--     all_know_test n cs  each of n huts knows what each of them saw, after the calls cs
 use Rattle.std.specs.Prelude.{ℕ, zero, suc, Bool, true, ◌&&◌, List}
 use Rattle.calls.specs.Call.{Call, knows}
 

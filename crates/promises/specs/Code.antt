@@ -1,7 +1,7 @@
 -- What a program that plans and a program that checks a list must be, over lines of any kind. Assumes nothing.
---     Good n l              lines that go both ways and join all of n huts to hut 0
---     Square n l            four different huts with lines round a square
---     Code n plan-for all-know    plan-for gives a plan for all such lines, and all-know tells whether a list of calls does it
+--     Good n l                  lines that go both ways and join all of n huts to hut 0
+--     Square n l                four different huts with lines round a square
+--     Code n plan_for all_know  plan_for gives a plan for all such lines, and all_know tells whether a list of calls does it
 use Rattle.std.specs.Prelude.{◌≡◌, ℕ, ◌-◌, ◌*◌, ◌<◌, ◌≤◌, Bool, true, ◌&&◌, T, List, length, nat_eq}
 use Rattle.calls.specs.Call.{Call, AllKnow, among}
 use Rattle.promises.specs.All.{all_know_test}

@@ -1,8 +1,8 @@
 -- The neighbour of a hut that is nearest to the middle, by a list of distances. Assumes nothing.
---     near nb ds m k        hut k is a neighbour, in the set nb, that is less than m lines from the middle
---     Nearer nb ds m o      o is the lowest such hut, or there is none
---     Nearest nb ds b r     r is the nearest of hut b and the neighbours, the lowest of those that are as near unless it is b
---     Partners rows ds rs ps    ps has such a neighbour for each hut of rs
+--     near nb ds m k          hut k is a neighbour, in the set nb, that is less than m lines from the middle
+--     Nearer nb ds m o        o is the lowest such hut, or there is none
+--     Nearest nb ds b r       r is the nearest of hut b and the neighbours, the lowest of those that are as near unless it is b
+--     Partners rows ds rs ps  ps has such a neighbour for each hut of rs
 use Rattle.std.specs.Prelude.{◌≡◌, ℕ, ◌<◌, Bool, true, false, ◌&&◌, ◌⊎◌, List, length, Some, None, Option, ◌≢◌, nat_lt, slice_index, slice_index_or}
 use Rattle.sets.specs.declared.HutSet.{HutSet}
 use Rattle.sets.specs.Set.{in_set}

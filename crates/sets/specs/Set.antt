@@ -1,5 +1,5 @@
 -- Sets of huts as bits of words: hut k is bit k % 64 of word k / 64. Assumes nothing.
---     in_set s k          hut k is in the set s
+--     in_set s k         hut k is in the set s
 --     Lowest n s r       r is the lowest hut below n that is not in the set, or n if there is none
 --     Meets s t f r      r says whether some hut from f on is in both sets
 --     Next s f r         r is the lowest hut of the set from f on, or 1,024 if there is none
