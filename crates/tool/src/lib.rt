@@ -1,7 +1,10 @@
 // What the programs share: their command line, their input, what they say, and how they end.
 #![tactic(auto)]
 
-ghost use Rattle.std.specs.Prelude.{◌≡◌};
+ghost use Rattle.std.specs.Prelude.{◌≡◌, Some, IfErr, IsOk, MatchResult, OnErr, codes, string_bytes};
+ghost use Rattle.std.specs.Process.{exit_status};
+ghost use Rattle.tool.specs.Outcome.{IsLeft, IsUnread, IsWant};
+ghost use Rattle.tool.specs.Text.{bad_shown, failure_shown, misuse, complaint_shown, help_text, version_text};
 ghost use Rattle.tool.specs.declared.Bad.TheVariants.{Unread as NotRead, Refused};
 
 use faults::Fault;
@@ -32,6 +35,8 @@ pub enum Bad {
 }
 
 impl fmt::Display for Bad {
+    ghost output = { λ b. Some (bad_shown b) };
+
     fn fmt<W: fmt::Write>(&self, f: &mut fmt::Formatter<W>) -> fmt::Result {
         match *self {
             Bad::Unread(unread) => write!(f, "{unread}"),
@@ -74,12 +79,16 @@ pub enum Failure<'a> {
 
 impl Failure<'_> {
     // Whether the command line is wrong.
-    fn is_misuse(&self) -> bool {
+    fn is_misuse(&self) -> bool
+        ensures { result ≡ misuse self.now }
+    {
         !matches!(self, Failure::Bad(_, _) | Failure::Input(_, _))
     }
 }
 
 impl fmt::Display for Failure<'_> {
+    ghost output = { failure_shown };
+
     fn fmt<W: fmt::Write>(&self, f: &mut fmt::Formatter<W>) -> fmt::Result {
         match self {
             Failure::Missing(what) => write!(f, "{what} is missing"),
@@ -102,14 +111,19 @@ pub struct Complaint<'a> {
 }
 
 impl fmt::Display for Complaint<'_> {
+    ghost output = { complaint_shown };
+
     fn fmt<W: fmt::Write>(&self, f: &mut fmt::Formatter<W>) -> fmt::Result {
         let Program { name, usage, .. } = self.program;
         let failure = &self.failure;
-        write!(f, "{name}: {failure}")?;
         if failure.is_misuse() {
-            write!(f, "\n{usage}\nTry '{name} --help' for more information.")?;
+            write!(
+                f,
+                "{name}: {failure}\n{usage}\nTry '{name} --help' for more information."
+            )
+        } else {
+            write!(f, "{name}: {failure}")
         }
-        Ok(())
     }
 }
 
@@ -161,24 +175,33 @@ pub fn asked<'a>(words: &'a [String], two: bool) -> Result<Request<'a>, Failure<
     }))
 }
 
-// A text that is printed, or want of memory for it.
-fn printed<'a>(text: Result<String, AllocError>) -> Result<String, Failure<'a>> {
-    match text {
-        Ok(text) => Ok(text),
-        Err(_) => Err(Failure::Bad("--help", Bad::Refused(Fault::Memory))),
-    }
+// Want of memory for what an option prints.
+fn no_memory<'a>(word: &'a str) -> Failure<'a>
+    ensures { IsWant word.now result }
+{
+    Failure::Bad(word, Bad::Refused(Fault::Memory))
 }
 
 // The forms of the command line, and what the program does.
-pub fn help<'a>(heap: Global, program: Program) -> Result<String, Failure<'a>> {
+pub fn help<'a>(heap: Global, program: Program) -> Result<String, Failure<'a>>
+    ensures text { MatchResult result (λ s. string_bytes s ≡ help_text program) (IsWant (codes "--help")) }
+{
     let Program { name, usage, about } = program;
-    printed(format!(in heap; "{usage}\n       {name} --help | --version\n\n{about}"))
+    match format!(in heap; "{usage}\n       {name} --help | --version\n\n{about}") {
+        Ok(text) => Ok(text),
+        Err(_) => Err(no_memory("--help")),
+    }
 }
 
 // The name, the version and the kit.
-pub fn version<'a>(heap: Global, program: Program) -> Result<String, Failure<'a>> {
+pub fn version<'a>(heap: Global, program: Program) -> Result<String, Failure<'a>>
+    ensures text { MatchResult result (λ s. string_bytes s ≡ version_text program) (IsWant (codes "--version")) }
+{
     let name = program.name;
-    printed(format!(in heap; "{name} {VERSION}\n"))
+    match format!(in heap; "{name} {VERSION}\n") {
+        Ok(text) => Ok(text),
+        Err(_) => Err(no_memory("--version")),
+    }
 }
 
 fn standard_input(rt: &HostRuntime) -> io::Result<Vec<u8>> {
@@ -188,7 +211,9 @@ fn standard_input(rt: &HostRuntime) -> io::Result<Vec<u8>> {
 }
 
 // All the bytes of a file, or of standard input, which is named '-'.
-pub fn input<'a>(rt: &HostRuntime, path: &'a str) -> Result<Vec<u8>, Failure<'a>> {
+pub fn input<'a>(rt: &HostRuntime, path: &'a str) -> Result<Vec<u8>, Failure<'a>>
+    ensures unread { IfErr result (IsUnread path.now) }
+{
     let bytes = if path == "-" {
         standard_input(rt)
     } else {
@@ -201,7 +226,10 @@ pub fn input<'a>(rt: &HostRuntime, path: &'a str) -> Result<Vec<u8>, Failure<'a>
 }
 
 // What became of writing. A reader that has seen enough is no failure.
-pub fn forgiving(done: io::Result<()>) -> io::Result<()> {
+pub fn forgiving(done: io::Result<()>) -> io::Result<()>
+    ensures left { IsLeft done → IsOk result }
+    ensures otherwise { (IsLeft done → ⊥) → result ≡ done }
+{
     match done {
         Err(e) if e.kind() == ErrorKind::BrokenPipe => Ok(()),
         done => done,
@@ -222,7 +250,9 @@ fn gathered(rt: &HostRuntime) -> io::Result<Vec<String>> {
 }
 
 // The words after the program's name, or the status to end with.
-pub fn arguments(rt: &HostRuntime, program: Program) -> Result<Vec<String>, ExitCode> {
+pub fn arguments(rt: &HostRuntime, program: Program) -> Result<Vec<String>, ExitCode>
+    ensures status { IfErr result (λ status. exit_status status ≡ 1) }
+{
     match gathered(rt) {
         Ok(words) => Ok(words),
         Err(e) => {
@@ -233,8 +263,10 @@ pub fn arguments(rt: &HostRuntime, program: Program) -> Result<Vec<String>, Exit
     }
 }
 
-// Prints the answer on standard output, or on standard error why there is none.
-pub fn finish(rt: &HostRuntime, program: Program, answer: Result<String, Failure<'_>>) -> ExitCode {
+// Prints the answer on standard output, or on standard error why there is none: then the status is 1.
+pub fn finish(rt: &HostRuntime, program: Program, answer: Result<String, Failure<'_>>) -> ExitCode
+    ensures none { OnErr answer.entry (exit_status result ≡ 1) }
+{
     let text = match answer {
         Ok(text) => text,
         Err(failure) => {
