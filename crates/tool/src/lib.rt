@@ -1,8 +1,9 @@
 // What the programs share: their command line, their input, what they say, and how they end.
 #![tactic(auto)]
 
-ghost use Rattle.std.specs.Prelude.{◌≡◌, Some, IfErr, IsOk, MatchResult, OnErr, codes, string_bytes};
+ghost use Rattle.std.specs.Prelude.{◌≡◌, true, false, map, Some, None, IfErr, IsOk, MatchResult, OnErr, codes, string_bytes};
 ghost use Rattle.std.specs.Process.{exit_status};
+ghost use Rattle.tool.specs.Asked.{IsSort, Asks};
 ghost use Rattle.tool.specs.Outcome.{IsLeft, IsUnread, IsWant};
 ghost use Rattle.tool.specs.Text.{bad_shown, failure_shown, misuse, complaint_shown, help_text, version_text};
 ghost use Rattle.tool.specs.declared.Bad.TheVariants.{Unread as NotRead, Refused};
@@ -143,29 +144,59 @@ pub struct Words<'a> {
     pub second: Option<&'a str>,
 }
 
+// What a word of the command line is.
+#[derive(Clone, Copy)]
+enum Sort {
+    Help,
+    Version,
+    // '--', which ends the options.
+    End,
+    Text,
+    // An option that no program has.
+    Unknown,
+    // No option.
+    Plain,
+}
+
+// What the word is, where options may still come or not.
+fn sort_of(word: &str, options: bool) -> Sort
+    ensures { IsSort options word.now result }
+{
+    if !options || word == "-" || !word.starts_with('-') {
+        return Sort::Plain;
+    }
+    match word {
+        "--help" => Sort::Help,
+        "--version" => Sort::Version,
+        "--" => Sort::End,
+        "--text" => Sort::Text,
+        _ => Sort::Unknown,
+    }
+}
+
 // The request of the words after the program's name, of which one, or two, are no options. '--' ends the options, and '-' is none.
-pub fn asked<'a>(words: &'a [String], two: bool) -> Result<Request<'a>, Failure<'a>> {
+pub fn asked<'a>(words: &'a [String], two: bool) -> Result<Request<'a>, Failure<'a>>
+    ensures asks { Asks two true false None None (map string_bytes words.now) result }
+{
     let mut text = false;
     let mut first = None;
     let mut second = None;
     let mut options = true;
     for word in words {
         let word = word.as_str();
-        match word {
-            "--help" if options => return Ok(Request::Help),
-            "--version" if options => return Ok(Request::Version),
-            "--" if options => options = false,
-            "--text" if options && text => return Err(Failure::Twice(word)),
-            "--text" if options => match first {
+        match sort_of(word, options) {
+            Sort::Help => return Ok(Request::Help),
+            Sort::Version => return Ok(Request::Version),
+            Sort::End => options = false,
+            Sort::Text if text => return Err(Failure::Twice(word)),
+            Sort::Text => match first {
                 Some(word) => return Err(Failure::Late(word)),
                 None => text = true,
             },
-            _ if options && word != "-" && word.starts_with('-') => {
-                return Err(Failure::Unknown(word));
-            }
-            _ if first.is_none() => first = Some(word),
-            _ if two && second.is_none() => second = Some(word),
-            _ => return Err(Failure::Extra(word)),
+            Sort::Unknown => return Err(Failure::Unknown(word)),
+            Sort::Plain if first.is_none() => first = Some(word),
+            Sort::Plain if two && second.is_none() => second = Some(word),
+            Sort::Plain => return Err(Failure::Extra(word)),
         }
     }
     Ok(Request::Words(Words {
