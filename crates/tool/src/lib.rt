@@ -9,7 +9,7 @@ ghost use Rattle.tool.specs.Text.{bad_shown, failure_shown, misuse, complaint_sh
 ghost use Rattle.tool.specs.declared.Bad.TheVariants.{Unread as NotRead, Refused};
 
 use faults::Fault;
-use std::alloc::{AllocError, Global};
+use std::alloc::Global;
 use std::io::{ErrorKind, Read, Write};
 use std::process::ExitCode;
 use std::{env, fmt, fs, io};
