@@ -4,8 +4,6 @@
 ghost use Rattle.examples.specs.Example.{TableHolds};
 
 // Each row of the table is so.
-pub fn examples_hold() -> u8
+pub fn examples_hold()
     ensures { TableHolds }
-{
-    0
-}
+{}

@@ -2,10 +2,11 @@
 #![tactic(auto)]
 
 ghost use Rattle.std.specs.Prelude.{◌≡◌, Some};
-ghost use Rattle.faults.specs.Fault.{number_of, hut_of, cause_of, shown_of};
+ghost use Rattle.faults.specs.Fault.{number_of, cause_of, shown_of};
 ghost use Rattle.faults.specs.declared.Fault.TheVariants.{Memory};
 
 use std::alloc::{AllocError, AllocFailed};
+use std::error::Error;
 use std::fmt;
 
 #[derive(Clone, Copy, PartialEq, Eq, Debug)]
@@ -37,7 +38,7 @@ pub enum Fault {
 }
 
 impl Fault {
-    // The number that users know the fault by; 0 for want of memory, which is no fault of the input.
+    // The number that users and callers in C know the fault by; 0 for want of memory, which is no fault of the input: a number and no Option, as C takes it.
     pub fn number(self) -> u8
         ensures { result ≡ number_of self }
     {
@@ -57,18 +58,8 @@ impl Fault {
         }
     }
 
-    // The hut that is told with the fault, if one is.
-    fn hut(self) -> Option<u16>
-        ensures { result ≡ hut_of self }
-    {
-        match self {
-            Fault::NotJoined(hut) => Some(hut),
-            _ => None,
-        }
-    }
-
     // The fault in words.
-    fn cause(self) -> &'static str
+    fn in_words(self) -> &'static str
         ensures { result.now ≡ cause_of self }
     {
         match self {
@@ -94,16 +85,16 @@ impl fmt::Display for Fault {
 
     fn fmt<W: fmt::Write>(&self, f: &mut fmt::Formatter<W>) -> fmt::Result {
         let number = self.number();
-        let cause = self.cause();
-        if number == 0 {
-            return f.write_str(cause);
-        }
-        match self.hut() {
-            Some(hut) => write!(f, "refused {number}: {cause}: hut {hut}"),
-            None => write!(f, "refused {number}: {cause}"),
+        let cause = self.in_words();
+        match *self {
+            Fault::Memory => f.write_str(cause),
+            Fault::NotJoined(hut) => write!(f, "refused {number}: {cause}: hut {hut}"),
+            _ => write!(f, "refused {number}: {cause}"),
         }
     }
 }
+
+impl Error for Fault {}
 
 impl From<AllocError> for Fault {
     ghost from_gives = { λ _ r. r ≡ Memory };

@@ -1,6 +1,7 @@
 -- The prescribed plan does it: along the lines, with as many calls as promised. Assumes nothing.
-use Rattle.std.proofs.Common.{◌≡◌, ℕ, ◌-◌, ◌<◌, true, T, eqb, List, [], ◌∷◌, ◌++◌, length, drop, Some, None, Option, sym, refl, subst, inl, inr, arith}
+use Rattle.std.proofs.Common.{◌≡◌, ℕ, ◌<◌, true, T, eqb, List, [], ◌∷◌, ◌++◌, drop, Some, None, Option, sym, refl, subst, inl, inr, arith}
 use Rattle.std.proofs.lemmas.Bool.{cases_eq}
+use Rattle.std.proofs.lemmas.List.{length-drop}
 use Rattle.std.proofs.lemmas.Bool.Decides.{nat_tests}
 use Rattle.calls.specs.Call.{call, knows, among, AllKnow}
 use Rattle.calls.proofs.Known.{knows_own, knows_same, robust}
@@ -20,10 +21,6 @@ pub reached : (n : ℕ) (l : Lines) (o : Option Square) → Joins n l → Smalle
 reached n l None j q i li = all-reached n l (eqb 0) j.both (λ k lk. let t = j.all k lk in grind (arith, nat_tests)) 0 (omega arith) refl i li
 reached n l (Some s) j q i li =
     all-reached n l (middle (Some s)) j.both (λ k lk. let t = j.all k lk in grind (arith, nat_tests)) s.a q.0.there.0 (grind (arith, nat_tests)) i li
-
-length_rest : (rs : List ℕ) → length (drop 1 rs) ≡ length rs - 1
-length_rest [] = refl
-length_rest (r ∷ rs) = omega arith
 
 module _ (n : ℕ) (l : Lines) (j : Joins n l) where
   -- with a square
@@ -135,7 +132,7 @@ module _ (n : ℕ) (l : Lines) (j : Joins n l) where
               let one = many_one_hut 0 n in
               let out = length-spread p0 (drop 1 rs) (gather p0 rs) in
               let inward = length-gather p0 rs in
-              let rest = length_rest rs in
+              let rest = length-drop 1 rs in
               grind (arith, nat_tests);
         }
 

@@ -34,6 +34,7 @@ fn write_calls<W: fmt::Write>(calls: &[u16], f: &mut fmt::Formatter<W>) -> fmt::
     ensures { WritesOnOk W.Write.write_str_gives f.old result (call_lines calls.now) f.new }
 {
     let mut left = calls;
+    // lines and calls are lent slices of numbers, two each, by a rule of the project: a pair at a time is taken off the front
     while let [a, e, rest @ ..] = left {
         writeln!(f, "{a} {e}")?;
         left = rest;
@@ -98,10 +99,7 @@ fn few(n: u16) -> &'static [u16]
 fn smallest_square(n: u16) -> Option<Square>
     ensures { result ≡ middle n }
 {
-    if n < 4 {
-        return None;
-    }
-    Some(Square {
+    (n >= 4).then_some(Square {
         a: 0,
         b: 1,
         c: 2,

@@ -1,4 +1,4 @@
-use Rattle.std.proofs.Common.{◌≡◌, ◌-◌, [], ◌∷◌, vec_items, sym, append_assoc, append-nil, arith}
+use Rattle.std.proofs.Common.{◌-◌, [], ◌∷◌, vec_items, sym, append_assoc, append-nil, arith}
 use Rattle.calls.specs.Number.{numbers}
 use Rattle.plans.specs.Complete.{hub}
 use Rattle.plans.proofs.Complete.{numbers_hub_more}
@@ -15,6 +15,3 @@ loop-hut-preserved c =
     let one_more = numbers_hub_more hut (omega arith) in
     let regrouped = append_assoc (vec_items c.args.calls.now) (numbers (hub (hut - 4))) (0 ∷ (hut ∷ [])) in
     (cc, omega arith)
-
-pub returns : goal.returns
-returns c = let all : c.loop-hut.hut - 4 ≡ c.args.n - 4 = omega arith in cc
