@@ -1,10 +1,17 @@
--- What is printed for a number of huts. Assumes nothing.
-use Rattle.std.specs.Prelude.{◌≡◌, ℕ, List, length, Some, None, Ok, Err, string_bytes, Result, String}
+-- What is printed for a number of huts, and what is said to a command line. Assumes nothing.
+use Rattle.std.specs.Prelude.{◌≡◌, ℕ, List, length, Some, None, Option, Ok, Err, codes, string_bytes, Result, String}
+use Rattle.std.specs.Borrow.{Bor}
 use Rattle.std.specs.Option.{unwrap_or}
+use Rattle.std.specs.Result.{IsErrAnd}
 use Rattle.std.specs.declared.alloc.Global.{Global}
-use Rattle.plan.specs.declared.Failure.{Failure}
-use Rattle.plan.specs.declared.Failure.TheVariants.{Missing, Option, Extra, NoNumber, Refused}
-use Rattle.plan.specs.Argument.{number_in}
+use Rattle.texts.specs.Number.{number_in}
+use Rattle.tool.specs.declared.Bad.TheVariants.{Refused}
+use Rattle.tool.specs.declared.Failure.{Failure}
+use Rattle.tool.specs.declared.Failure.TheVariants.{Bad, NoNumber}
+use Rattle.tool.specs.declared.Takes.TheVariants.{Number}
+use Rattle.tool.specs.declared.Program.{Program}
+use Rattle.tool.specs.Reply as tool
+use Rattle.tool.specs.Text.{failure_shown}
 use Rattle.faults.specs.declared.Fault.{Fault}
 use Rattle.faults.specs.declared.Fault.TheVariants.{Memory}
 use Rattle.calls.specs.Number.{numbers}
@@ -24,8 +31,15 @@ Prints n (Err f) = f ≡ unwrap_or (refusal n) Memory
 -- The word writes a number, and the plan for it is printed; or it writes none; or its number is refused.
 abbrev pub Answered : List ℕ → Result (String Global) Failure → Type 0
 Answered word (Ok s) = (n : ℕ) × (number_in word ≡ Some n) × (refusal n ≡ None) × (string_bytes s ≡ plan_text n)
-Answered word (Err Missing) = ⊥
-Answered word (Err (Option w)) = ⊥
-Answered word (Err (Extra w)) = ⊥
 Answered word (Err (NoNumber w)) = (number_in word ≡ None) × (w.now ≡ word)
-Answered word (Err (Refused w f)) = (n : ℕ) × (number_in word ≡ Some n) × (f ≡ unwrap_or (refusal n) Memory) × (w.now ≡ word)
+Answered word (Err (Bad w (Refused f))) = (n : ℕ) × (number_in word ≡ Some n) × (f ≡ unwrap_or (refusal n) Memory) × (w.now ≡ word)
+Answered word (Err f) = ⊥
+
+-- that of the word that came; or that none came
+abbrev pub AnsweredFirst : Option (Bor (List ℕ)) → Result (String Global) Failure → Type 0
+AnsweredFirst (Some word) r = Answered word.now r
+AnsweredFirst None r = IsErrAnd r (λ f. failure_shown f ≡ Some (codes "the number of huts is missing"))
+
+-- A program of the name plan, which takes a number of huts alone, replies so to the words of its command line; and what it says to those that are no options is right.
+abbrev pub Replies : List (List ℕ) → Result (String Global) Failure → Type 0
+Replies words r = (p : Program) × (p.name.now ≡ codes "plan") × (p.takes ≡ Number) × tool.Replies p (λ w said. AnsweredFirst w.first said) words r

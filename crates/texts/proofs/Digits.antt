@@ -1,8 +1,8 @@
 -- Numbers read digit by digit. Assumes nothing.
-use Rattle.std.proofs.Common.{◌≡◌, ℕ, zero, suc, ◌+◌, ◌-◌, ◌*◌, ◌<◌, ◌≤◌, min, true, false, ◌&&◌, ltb, List, [], ◌∷◌, ◌++◌, length, get_or, take, Some, None, sym, refl, ap, ◌∙◌, arith}
+use Rattle.std.proofs.Common.{◌≡◌, ℕ, zero, suc, ◌+◌, ◌-◌, ◌*◌, ◌<◌, true, false, ◌&&◌, ltb, List, [], ◌∷◌, ◌++◌, length, get_or, take, None, sym, refl, arith}
 use Rattle.std.proofs.lemmas.Bool.Decides.{nat_tests}
-use Rattle.std.proofs.lemmas.List.{take_more, take_all}
-use Rattle.std.proofs.lemmas.Bool.{and_left, and_right, and_from, cond-true, cond-false, lt-ltb}
+use Rattle.std.proofs.lemmas.List.{take_more}
+use Rattle.std.proofs.lemmas.Bool.{and_left, and_right, cond-false}
 use Rattle.texts.specs.Number.{digit, all_digits, read_on, number_in}
 
 read_on_push : (v : ℕ) (ds : List ℕ) (d : ℕ) → read_on v (ds ++ (d ∷ [])) ≡ read_on v ds * 10 + (d - 48)
@@ -28,9 +28,3 @@ all_digits_broken (d ∷ ds) (suc i) h b = and_right (digit d) (all_digits ds) (
 
 pub number_none : (ds : List ℕ) → all_digits ds ≡ false → None ≡ number_in ds
 number_none ds h = sym (cond-false (ltb 0 (length ds) && all_digits ds) _ _ (and_right (ltb 0 (length ds)) (all_digits ds) h))
-
-pub number_all : (ds : List ℕ) (i n : ℕ) → length ds ≤ i → 0 < length ds → all_digits (take i ds) ≡ true → n ≡ min (read_on 0 (take i ds)) 65535 → Some n ≡ number_in ds
-number_all ds i n l some all value =
-    let e = take_all i ds l in
-    let t = and_from (ltb 0 (length ds)) (all_digits ds) (lt-ltb 0 (length ds) some) (rw e at all) in
-    ap Some (rw e at value) ∙ sym (cond-true (ltb 0 (length ds) && all_digits ds) _ _ t)

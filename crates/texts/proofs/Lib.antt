@@ -1,4 +1,4 @@
+pub mod Chains
 pub mod Digits
-pub mod Pieces
-pub mod Pairs
 pub mod Examples
+pub mod Pairs

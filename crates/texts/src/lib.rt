@@ -1,10 +1,10 @@
 // Lists of lines or of calls, read from text: the number of huts on the first line, then a pair of huts a line.
 #![tactic(auto)]
 
-ghost use Rattle.std.specs.Prelude.{◌≡◌, ◌+◌, ◌∷◌, length, Some};
-ghost use Rattle.texts.specs.Lines.{blank, lines_of, lines_after, words_of, words_with, trimmed_of};
+ghost use Rattle.std.specs.Prelude.{◌≡◌, Some, option_map, slice_get};
+ghost use Rattle.texts.specs.Lines.{blank, words_of};
 ghost use Rattle.texts.specs.Number.{number_in};
-ghost use Rattle.texts.specs.Reading.{sole_number, further_of, pairs_from, unread_of, Adds, ReadsPairs, Reads, line_of, shown_of};
+ghost use Rattle.texts.specs.Reading.{sole_number, further_of, Reads, shown_of};
 ghost use Rattle.texts.specs.declared.Unread.TheVariants.{Memory};
 
 use std::alloc::{AllocError, Global};
@@ -26,25 +26,13 @@ pub enum Unread {
     Memory,
 }
 
-impl Unread {
-    // The line that is told, if one is.
-    fn line(self) -> Option<usize>
-        ensures { result ≡ line_of self }
-    {
-        match self {
-            Unread::Line(line) => Some(line),
-            Unread::Memory => None,
-        }
-    }
-}
-
 impl fmt::Display for Unread {
     ghost output = { λ u. Some (shown_of u) };
 
     fn fmt<W: fmt::Write>(&self, f: &mut fmt::Formatter<W>) -> fmt::Result {
-        match self.line() {
-            Some(line) => write!(f, "line {line} can't be read"),
-            None => f.write_str("out of memory"),
+        match *self {
+            Unread::Line(line) => write!(f, "line {line} can't be read"),
+            Unread::Memory => f.write_str("out of memory"),
         }
     }
 }
@@ -57,13 +45,9 @@ impl From<AllocError> for Unread {
     }
 }
 
-// What a line after the first stands for.
+// A line after the first that is neither blank nor a pair.
 #[derive(Clone, Copy)]
-enum Further {
-    Blank,
-    Pair(u16, u16),
-    Unreadable,
-}
+struct Unreadable;
 
 // The number that a word of digits stands for, and 65,535 if that is larger; no other word stands for a number.
 pub fn number(word: &[u8]) -> Option<u16>
@@ -74,7 +58,7 @@ pub fn number(word: &[u8]) -> Option<u16>
     }
     let mut n: u16 = 0;
     for d in word {
-        if *d < b'0' || *d > b'9' {
+        if !d.is_ascii_digit() {
             return None;
         }
         n = n.saturating_mul(10).saturating_add(u16::from(*d - b'0'));
@@ -86,131 +70,60 @@ pub fn number(word: &[u8]) -> Option<u16>
 fn is_blank(byte: u8) -> bool
     ensures { result ≡ blank byte }
 {
-    byte == b' ' || byte == b'\t' || byte == b'\r'
+    matches!(byte, b' ' | b'\t' | b'\r')
 }
 
-// The first line, and the text from its end on: nothing, or a newline and the lines after it.
-fn first_line(text: &[u8]) -> (&[u8], &[u8])
-    ensures parts { lines_of text.now ≡ result.0.now ∷ lines_after result.1.now }
-    ensures size { length result.0.now + length result.1.now ≡ length text.now }
+// The first three words of a line, as far as it has them; no line that can be read has a third.
+fn first_words(line: &[u8]) -> (Option<&[u8]>, Option<&[u8]>, Option<&[u8]>)
+    ensures first { option_map (λ w. w.now) result.0 ≡ slice_get (words_of line.now) 0 }
+    ensures second { option_map (λ w. w.now) result.1 ≡ slice_get (words_of line.now) 1 }
+    ensures third { option_map (λ w. w.now) result.2 ≡ slice_get (words_of line.now) 2 }
 {
-    let mut end = 0;
-    while end < text.len() && text[end] != b'\n' {
-        end += 1;
-    }
-    text.split_at(end)
-}
-
-// The line without the blanks that it begins with.
-fn trimmed(line: &[u8]) -> &[u8]
-    ensures { result.now ≡ trimmed_of line.now }
-{
-    let mut left = line;
-    while let [first, rest @ ..] = left {
-        if !is_blank(*first) {
-            return left;
-        }
-        left = rest;
-    }
-    left
-}
-
-// The first word of a line, and what follows it; an empty word if there is none.
-fn first_word(line: &[u8]) -> (&[u8], &[u8])
-    ensures { words_of line.now ≡ words_with result.0.now result.1.now }
-{
-    let word = trimmed(line);
-    let mut end = 0;
-    while end < word.len() && !is_blank(word[end]) {
-        end += 1;
-    }
-    word.split_at(end)
+    let mut words = line.split(|b| is_blank(*b)).filter(|w| !w.is_empty());
+    (words.next(), words.next(), words.next())
 }
 
 // The number that is the only word of a line.
 fn sole_number(line: &[u8]) -> Option<u16>
     ensures { result ≡ sole_number (words_of line.now) }
 {
-    let (word, rest) = first_word(line);
-    let (more, _) = first_word(rest);
-    if more.is_empty() { number(word) } else { None }
+    match first_words(line) {
+        (Some(word), None, _) => number(word),
+        _ => None,
+    }
 }
 
-// What a line after the first stands for.
-fn further_line(line: &[u8]) -> Further
+// The pair that a line after the first stands for, and none for a blank line.
+fn further_line(line: &[u8]) -> Result<Option<(u16, u16)>, Unreadable>
     ensures { result ≡ further_of (words_of line.now) }
 {
-    let (a, rest) = first_word(line);
-    let (e, rest) = first_word(rest);
-    let (more, _) = first_word(rest);
-    if a.is_empty() {
-        return Further::Blank;
-    }
-    if !more.is_empty() {
-        return Further::Unreadable;
-    }
-    match (number(a), number(e)) {
-        (Some(a), Some(e)) => Further::Pair(a, e),
-        _ => Further::Unreadable,
-    }
-}
-
-// The pair of line k, if it has one, goes to the pairs.
-fn add_line(pairs: &mut Vec<u16>, k: usize, line: &[u8]) -> Result<(), Unread>
-    ensures { Adds k line.now pairs.old.items pairs.new.items result }
-{
-    match further_line(line) {
-        Further::Blank => {}
-        Further::Pair(a, e) => pairs.extend_from_slice(&[a, e])?,
-        Further::Unreadable => return Err(Unread::Line(k)),
-    }
-    Ok(())
-}
-
-// The pairs of the lines after the first, at the end of which the text begins.
-fn read_pairs(heap: Global, text: &[u8]) -> Result<Vec<u16>, Unread>
-    ensures { ReadsPairs (lines_after text.now) result }
-{
-    let mut pairs = Vec::new(heap);
-    let mut k = 1;
-    let mut left = text;
-    while let [_, rest @ ..] = left {
-        k += 1;
-        let (line, next) = first_line(rest);
-        add_line(&mut pairs, k, line)?;
-        left = next;
-    }
-    Ok(pairs)
-}
-
-// The first of the lines after the first that can't be read, and want of memory if there is none. The text begins at the end of the first.
-fn unread_in(text: &[u8]) -> Unread
-    ensures { result ≡ unread_of (pairs_from 2 (lines_after text.now)) }
-{
-    let mut k = 1;
-    let mut left = text;
-    while let [_, rest @ ..] = left {
-        k += 1;
-        let (line, after) = first_line(rest);
-        if let Further::Unreadable = further_line(line) {
-            return Unread::Line(k);
+    match first_words(line) {
+        (None, _, _) => Ok(None),
+        (Some(a), Some(e), None) => {
+            let a = number(a).ok_or(Unreadable)?;
+            let e = number(e).ok_or(Unreadable)?;
+            Ok(Some((a, e)))
         }
-        left = after;
+        _ => Err(Unreadable),
     }
-    Unread::Memory
 }
 
 // A list is read to its end, or to its first line that can't be read, which is looked for also where memory is wanting.
 pub fn read(heap: Global, text: &[u8]) -> Result<Listing, Unread>
     ensures { Reads text.now result }
 {
-    let (first, rest) = first_line(text);
-    let Some(huts) = sole_number(first) else {
-        return Err(Unread::Line(1));
-    };
-    match read_pairs(heap, rest) {
-        Ok(pairs) => Ok(Listing { huts, pairs }),
-        Err(Unread::Line(k)) => Err(Unread::Line(k)),
-        Err(Unread::Memory) => Err(unread_in(rest)),
+    let mut lines = text.split(|b| *b == b'\n');
+    let huts = lines.next().and_then(sole_number).ok_or(Unread::Line(1))?;
+    let mut pairs = Vec::new(heap);
+    // Whether there was memory for every pair so far. Where there wasn't, the lines are still read, for one that can't be.
+    let mut gathered = Ok(());
+    for (k, line) in (2..).zip(lines) {
+        if let Some((a, e)) = further_line(line).map_err(|_| Unread::Line(k))? {
+            if gathered.is_ok() {
+                gathered = pairs.extend_from_slice(&[a, e]);
+            }
+        }
     }
+    gathered?;
+    Ok(Listing { huts, pairs })
 }

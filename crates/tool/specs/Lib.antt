@@ -1,3 +1,4 @@
 pub mod Text
 pub mod Outcome
 pub mod Asked
+pub mod Reply

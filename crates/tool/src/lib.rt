@@ -1,9 +1,11 @@
 // What the programs share: their command line, their input, what they say, and how they end.
 #![tactic(auto)]
 
-ghost use Rattle.std.specs.Prelude.{◌≡◌, true, false, map, Some, None, IfErr, IsOk, MatchResult, OnErr, codes, string_bytes};
+ghost use Rattle.std.specs.Prelude.{◌≡◌, ◌⊎◌, true, false, map, Some, None, IfErr, IsOk, MatchResult, OnErr, codes, string_bytes};
+ghost use Rattle.std.specs.Fn.{FnOnceReturnsAt};
 ghost use Rattle.std.specs.Process.{exit_status};
-ghost use Rattle.tool.specs.Asked.{IsSort, Asks};
+ghost use Rattle.tool.specs.Asked.{has_texts, has_second, IsSort, Asks};
+ghost use Rattle.tool.specs.Reply.{Replies, IsAnswered};
 ghost use Rattle.tool.specs.Outcome.{IsLeft, IsUnread, IsWant};
 ghost use Rattle.tool.specs.Text.{bad_shown, failure_shown, misuse, complaint_shown, help_text, version_text};
 ghost use Rattle.tool.specs.declared.Bad.TheVariants.{Unread as NotRead, Refused};
@@ -18,10 +20,54 @@ use texts::Unread;
 // Of every program: its version, and what it is proved with.
 const VERSION: &str = "0.1.0, proved with rattle-kit-13f logic dac8208d650f15bf";
 
+// What a program takes, beside '--help', '--version' and '--'.
+#[derive(Clone, Copy)]
+pub enum Takes {
+    // A number of huts.
+    Number,
+    // A number of huts, or a text after '--text'.
+    NumberOrText,
+    // Two texts, after '--text'.
+    TwoTexts,
+}
+
+impl Takes {
+    // Whether '--text' is an option, and '-' a word: standard input.
+    fn has_texts(self) -> bool
+        ensures { result ≡ has_texts self }
+    {
+        !matches!(self, Takes::Number)
+    }
+
+    // Whether a second word may come that is no option.
+    fn has_second(self) -> bool
+        ensures { result ≡ has_second self }
+    {
+        matches!(self, Takes::TwoTexts)
+    }
+
+    // What the word is, where options may still come or not: a flag, since that is the state of the scan, which '--' turns off.
+    fn sort_of(self, word: &str, options: bool) -> Sort
+        ensures { IsSort self options word.now result }
+    {
+        if !options || !word.starts_with('-') || word == "-" && self.has_texts() {
+            return Sort::Plain;
+        }
+        match word {
+            "--help" => Sort::Help,
+            "--version" => Sort::Version,
+            "--" => Sort::End,
+            "--text" if self.has_texts() => Sort::Text,
+            _ => Sort::Unknown,
+        }
+    }
+}
+
 // A program as its users meet it.
 #[derive(Clone, Copy)]
 pub struct Program {
     pub name: &'static str,
+    pub takes: Takes,
     // The forms of its command line, a line each.
     pub usage: &'static str,
     // What it does, with an example.
@@ -65,8 +111,8 @@ impl From<Fault> for Bad {
 // Why nothing is printed on standard output.
 #[derive(Drop)]
 pub enum Failure<'a> {
-    // The command line is wrong.
-    Missing(&'static str),
+    // The command line is wrong. What is missing is named by a text of the program's own, which the borrow checker does not let a closure give as one that always lives.
+    Missing(&'a str),
     Unknown(&'a str),
     Extra(&'a str),
     Twice(&'a str),
@@ -139,7 +185,7 @@ pub enum Request<'a> {
 // The words that are no options, and whether they name texts.
 #[derive(Clone, Copy)]
 pub struct Words<'a> {
-    pub text: bool,
+    pub text: bool, // a flag beside the words, since either may be missing with '--text' and without
     pub first: Option<&'a str>,
     pub second: Option<&'a str>,
 }
@@ -152,87 +198,148 @@ enum Sort {
     // '--', which ends the options.
     End,
     Text,
-    // An option that no program has.
+    // An option that the program doesn't have.
     Unknown,
     // No option.
     Plain,
 }
 
-// What the word is, where options may still come or not.
-fn sort_of(word: &str, options: bool) -> Sort
-    ensures { IsSort options word.now result }
-{
-    if !options || word == "-" || !word.starts_with('-') {
-        return Sort::Plain;
+impl Program {
+    // The request of the words after the program's name. '--' ends the options.
+    pub fn asked<'a>(self, words: &'a [String]) -> Result<Request<'a>, Failure<'a>>
+        ensures asks { Asks self.takes true false None None (map string_bytes words.now) result }
+    {
+        let mut text = false;
+        let mut first = None;
+        let mut second = None;
+        let mut options = true;
+        for word in words {
+            let word = word.as_str();
+            match self.takes.sort_of(word, options) {
+                Sort::Help => return Ok(Request::Help),
+                Sort::Version => return Ok(Request::Version),
+                Sort::End => options = false,
+                Sort::Text if text => return Err(Failure::Twice(word)),
+                Sort::Text => match first {
+                    Some(word) => return Err(Failure::Late(word)),
+                    None => text = true,
+                },
+                Sort::Unknown => return Err(Failure::Unknown(word)),
+                Sort::Plain if first.is_none() => first = Some(word),
+                Sort::Plain if second.is_none() && self.takes.has_second() => second = Some(word),
+                Sort::Plain => return Err(Failure::Extra(word)),
+            }
+        }
+        Ok(Request::Words(Words {
+            text,
+            first,
+            second,
+        }))
     }
-    match word {
-        "--help" => Sort::Help,
-        "--version" => Sort::Version,
-        "--" => Sort::End,
-        "--text" => Sort::Text,
-        _ => Sort::Unknown,
-    }
-}
 
-// The request of the words after the program's name, of which one, or two, are no options. '--' ends the options, and '-' is none.
-pub fn asked<'a>(words: &'a [String], two: bool) -> Result<Request<'a>, Failure<'a>>
-    ensures asks { Asks two true false None None (map string_bytes words.now) result }
-{
-    let mut text = false;
-    let mut first = None;
-    let mut second = None;
-    let mut options = true;
-    for word in words {
-        let word = word.as_str();
-        match sort_of(word, options) {
-            Sort::Help => return Ok(Request::Help),
-            Sort::Version => return Ok(Request::Version),
-            Sort::End => options = false,
-            Sort::Text if text => return Err(Failure::Twice(word)),
-            Sort::Text => match first {
-                Some(word) => return Err(Failure::Late(word)),
-                None => text = true,
+    // The forms of the command line, and what the program does.
+    pub fn help<'a>(self, heap: Global) -> Result<String, Failure<'a>>
+        ensures text { MatchResult result (λ s. string_bytes s ≡ help_text self) (IsWant (codes "--help")) }
+    {
+        let Program {
+            name,
+            usage,
+            about,
+            ..
+        } = self;
+        let text = format!(in heap; "{usage}\n       {name} --help | --version\n\n{about}");
+        let word: &'a str = "--help"; // named, since a closure can't give a text that always lives where a shorter life is asked for
+        text.map_err(|_| no_memory(word))
+    }
+
+    // The name, the version and the kit.
+    pub fn version<'a>(self, heap: Global) -> Result<String, Failure<'a>>
+        ensures text { MatchResult result (λ s. string_bytes s ≡ version_text self) (IsWant (codes "--version")) }
+    {
+        let name = self.name;
+        let text = format!(in heap; "{name} {VERSION}\n");
+        let word: &'a str = "--version"; // named, as in `help`
+        text.map_err(|_| no_memory(word))
+    }
+
+    // The help, the version, or what is said to the words that are no options.
+    pub fn reply<'a, F: FnOnce(Words<'_>) -> Result<String, Failure<'_>> + Drop>(
+        self,
+        heap: Global,
+        words: &'a [String],
+        say: F,
+    ) -> Result<String, Failure<'a>>
+        requires { F.IsAlwaysCallable say }
+        ensures replies { Replies self (F.post say) (map string_bytes words.now) result }
+    {
+        let words = match self.asked(words)? {
+            Request::Help => return self.help(heap),
+            Request::Version => return self.version(heap),
+            Request::Words(words) => words,
+        };
+        say(words)
+    }
+
+    // The words after the program's name, or the status to end with.
+    pub fn arguments(self, rt: &HostRuntime) -> Result<Vec<String>, ExitCode>
+        ensures status { IfErr result (λ status. exit_status status ≡ 1) }
+    {
+        gathered(rt).map_err(|e| {
+            let name = self.name;
+            failed(rt, format_args!("{name}: the arguments can't be read: {e}"))
+        })
+    }
+
+    // Prints the answer on standard output, or on standard error why there is none: then the status is 1.
+    pub fn finish(self, rt: &HostRuntime, answer: Result<String, Failure<'_>>) -> ExitCode
+        ensures none { OnErr answer.entry (exit_status result ≡ 1) }
+    {
+        let program = self;
+        let name = program.name;
+        match answer {
+            Ok(text) => match deliver(rt, &text) {
+                Ok(()) => ExitCode::SUCCESS,
+                Err(e) => failed(rt, format_args!("{name}: {e}")),
             },
-            Sort::Unknown => return Err(Failure::Unknown(word)),
-            Sort::Plain if first.is_none() => first = Some(word),
-            Sort::Plain if two && second.is_none() => second = Some(word),
-            Sort::Plain => return Err(Failure::Extra(word)),
+            Err(failure) => failed(rt, Complaint { program, failure }),
         }
     }
-    Ok(Request::Words(Words {
-        text,
-        first,
-        second,
-    }))
+
+    // Prints what is answered to the words after the program's name, as `finish` does.
+    pub fn run<F: FnOnce(&[String]) -> Result<String, Failure<'_>> + Drop>(
+        self,
+        rt: &HostRuntime,
+        answer: F,
+    ) -> ExitCode
+        requires { F.IsAlwaysCallable answer }
+        ensures status { (exit_status result ≡ 1) ⊎ IsAnswered (FnOnceReturnsAt F.FnOnce answer) }
+    {
+        let words = match self.arguments(rt) {
+            Ok(words) => words,
+            Err(status) => return status,
+        };
+        let answer = answer(&words);
+        self.finish(rt, answer)
+    }
 }
 
 // Want of memory for what an option prints.
-fn no_memory<'a>(word: &'a str) -> Failure<'a>
+fn no_memory(word: &str) -> Failure<'_>
     ensures { IsWant word.now result }
 {
     Failure::Bad(word, Bad::Refused(Fault::Memory))
 }
 
-// The forms of the command line, and what the program does.
-pub fn help<'a>(heap: Global, program: Program) -> Result<String, Failure<'a>>
-    ensures text { MatchResult result (λ s. string_bytes s ≡ help_text program) (IsWant (codes "--help")) }
+// The status, once it is said on standard error why.
+fn failed(rt: &HostRuntime, why: impl fmt::Display + Drop) -> ExitCode
+    ensures { exit_status result ≡ 1 }
 {
-    let Program { name, usage, about } = program;
-    match format!(in heap; "{usage}\n       {name} --help | --version\n\n{about}") {
-        Ok(text) => Ok(text),
-        Err(_) => Err(no_memory("--help")),
-    }
+    let _ = rt.eprintln(why);
+    ExitCode::FAILURE
 }
 
-// The name, the version and the kit.
-pub fn version<'a>(heap: Global, program: Program) -> Result<String, Failure<'a>>
-    ensures text { MatchResult result (λ s. string_bytes s ≡ version_text program) (IsWant (codes "--version")) }
-{
-    let name = program.name;
-    match format!(in heap; "{name} {VERSION}\n") {
-        Ok(text) => Ok(text),
-        Err(_) => Err(no_memory("--version")),
-    }
+fn gathered(rt: &HostRuntime) -> io::Result<Vec<String>> {
+    Ok(env::args(rt)?.skip(1).collect(rt.alloc())?)
 }
 
 fn standard_input(rt: &HostRuntime) -> io::Result<Vec<u8>> {
@@ -250,10 +357,7 @@ pub fn input<'a>(rt: &HostRuntime, path: &'a str) -> Result<Vec<u8>, Failure<'a>
     } else {
         fs::read(rt, path)
     };
-    match bytes {
-        Ok(bytes) => Ok(bytes),
-        Err(error) => Err(Failure::Input(path, error)),
-    }
+    bytes.map_err(|error| Failure::Input(path, error))
 }
 
 // What became of writing. A reader that has seen enough is no failure.
@@ -270,46 +374,4 @@ pub fn forgiving(done: io::Result<()>) -> io::Result<()>
 // Writes the whole text at once.
 fn deliver(rt: &HostRuntime, text: &str) -> io::Result<()> {
     forgiving(rt.stdout().write_all(text.as_bytes()))
-}
-
-fn gathered(rt: &HostRuntime) -> io::Result<Vec<String>> {
-    let mut words = Vec::new(rt.alloc());
-    for word in env::args(rt)?.skip(1) {
-        words.push(word)?;
-    }
-    Ok(words)
-}
-
-// The words after the program's name, or the status to end with.
-pub fn arguments(rt: &HostRuntime, program: Program) -> Result<Vec<String>, ExitCode>
-    ensures status { IfErr result (λ status. exit_status status ≡ 1) }
-{
-    match gathered(rt) {
-        Ok(words) => Ok(words),
-        Err(e) => {
-            let name = program.name;
-            let _ = eprintln!(rt; "{name}: the arguments can't be read: {e}");
-            Err(ExitCode::FAILURE)
-        }
-    }
-}
-
-// Prints the answer on standard output, or on standard error why there is none: then the status is 1.
-pub fn finish(rt: &HostRuntime, program: Program, answer: Result<String, Failure<'_>>) -> ExitCode
-    ensures none { OnErr answer.entry (exit_status result ≡ 1) }
-{
-    let text = match answer {
-        Ok(text) => text,
-        Err(failure) => {
-            let complaint = Complaint { program, failure };
-            let _ = eprintln!(rt; "{complaint}");
-            return ExitCode::FAILURE;
-        }
-    };
-    if let Err(e) = deliver(rt, text.as_str()) {
-        let name = program.name;
-        let _ = eprintln!(rt; "{name}: {e}");
-        return ExitCode::FAILURE;
-    }
-    ExitCode::SUCCESS
 }
