@@ -7,10 +7,11 @@ use checks::Wrong;
 use faults::Fault;
 use std::alloc::Global;
 use std::process::ExitCode;
-use tool::{Bad, Failure, Program, Request};
+use tool::{Bad, Failure, Program, Takes, Words};
 
 const CHECKER: Program = Program {
     name: "checker",
+    takes: Takes::TwoTexts,
     usage: "usage: checker --text LINES CALLS",
     about: "Says what a list of calls comes to: 'all know everything after 396 calls', if
 these are the fewest first calls of the list after which every hut knows what
@@ -33,40 +34,31 @@ line is wrong; then nothing is printed on standard output.
 ",
 };
 
-// What is wrong, and with which of the two texts.
-#[derive(Clone, Copy)]
-enum Blame {
-    First(Bad),
-    Second(Bad),
-}
-
 // What is printed for calls that say that they are for m huts, among n huts with these lines.
-fn text(heap: Global, n: u16, lines: &[u16], m: u16, calls: &[u16]) -> Result<String, Wrong>
+fn text(heap: Global, n: u16, lines: &[u16], m: u16, calls: &[u16]) -> Result<String, Wrong<Fault>>
     ensures prints { Prints n lines.now m calls.now result }
 {
     let report = checks::check(heap, n, lines, m, calls)?;
-    match report.to_string(heap) {
-        Ok(text) => Ok(text),
-        Err(_) => Err(Wrong::Calls(Fault::Memory)),
-    }
+    report
+        .to_string(heap)
+        .map_err(|_| Wrong::Calls(Fault::Memory))
 }
 
 // What is printed for a text that should list lines, and one that should list calls.
-fn checked(heap: Global, lines: &[u8], calls: &[u8]) -> Result<String, Blame>
+fn checked(heap: Global, lines: &[u8], calls: &[u8]) -> Result<String, Wrong<Bad>>
     ensures answered { Answered lines.now calls.now result }
 {
-    let lines = match texts::read(heap, lines) {
-        Ok(listing) => listing,
-        Err(unread) => return Err(Blame::First(Bad::Unread(unread))),
-    };
-    let calls = match texts::read(heap, calls) {
-        Ok(listing) => listing,
-        Err(unread) => return Err(Blame::Second(Bad::Unread(unread))),
-    };
-    match text(heap, lines.huts, &lines.pairs, calls.huts, &calls.pairs) {
-        Ok(text) => Ok(text),
-        Err(Wrong::Lines(fault)) => Err(Blame::First(Bad::Refused(fault))),
-        Err(Wrong::Calls(fault)) => Err(Blame::Second(Bad::Refused(fault))),
+    let lines = texts::read(heap, lines).map_err(|unread| Wrong::Lines(Bad::Unread(unread)))?;
+    let calls = texts::read(heap, calls).map_err(|unread| Wrong::Calls(Bad::Unread(unread)))?;
+    let text = text(heap, lines.huts, &lines.pairs, calls.huts, &calls.pairs);
+    text.map_err(|wrong| wrong.map(Bad::Refused))
+}
+
+// What is wrong, with the name of the file that it is wrong with.
+fn failure<'a>(wrong: Wrong<Bad>, lines: &'a str, calls: &'a str) -> Failure<'a> {
+    match wrong {
+        Wrong::Lines(bad) => Failure::Bad(lines, bad),
+        Wrong::Calls(bad) => Failure::Bad(calls, bad),
     }
 }
 
@@ -74,20 +66,11 @@ fn checked(heap: Global, lines: &[u8], calls: &[u8]) -> Result<String, Blame>
 fn for_files<'a>(rt: &HostRuntime, lines: &'a str, calls: &'a str) -> Result<String, Failure<'a>> {
     let first = tool::input(rt, lines)?;
     let second = tool::input(rt, calls)?;
-    match checked(rt.alloc(), &first, &second) {
-        Ok(text) => Ok(text),
-        Err(Blame::First(bad)) => Err(Failure::Bad(lines, bad)),
-        Err(Blame::Second(bad)) => Err(Failure::Bad(calls, bad)),
-    }
+    checked(rt.alloc(), &first, &second).map_err(|wrong| failure(wrong, lines, calls))
 }
 
-// What is printed on standard output.
-fn answer<'a>(rt: &HostRuntime, words: &'a [String]) -> Result<String, Failure<'a>> {
-    let words = match tool::asked(words, true)? {
-        Request::Help => return tool::help(rt.alloc(), CHECKER),
-        Request::Version => return tool::version(rt.alloc(), CHECKER),
-        Request::Words(words) => words,
-    };
+// What is printed for the words that are no options.
+fn said<'a>(rt: &HostRuntime, words: Words<'a>) -> Result<String, Failure<'a>> {
     if !words.text {
         return Err(Failure::Missing("'--text'"));
     }
@@ -99,11 +82,13 @@ fn answer<'a>(rt: &HostRuntime, words: &'a [String]) -> Result<String, Failure<'
     }
 }
 
+// What is printed on standard output.
+fn answer<'a>(rt: &HostRuntime, words: &'a [String]) -> Result<String, Failure<'a>> {
+    CHECKER.reply(rt.alloc(), words, |words| said(rt, words))
+}
+
 fn main(rt: HostRuntime) -> ExitCode {
-    match tool::arguments(&rt, CHECKER) {
-        Ok(words) => tool::finish(&rt, CHECKER, answer(&rt, &words)),
-        Err(status) => status,
-    }
+    CHECKER.run(&rt, |words| answer(&rt, words))
 }
 
 #[cfg(test)]
@@ -121,8 +106,8 @@ Try 'checker --help' for more information.";
     fn told(heap: Global, lines: &str, calls: &str) -> Result<String, AllocError> {
         match checked(heap, lines.as_bytes(), calls.as_bytes()) {
             Ok(text) => Ok(text),
-            Err(Blame::First(bad)) => format!(in heap; "lines: {bad}"),
-            Err(Blame::Second(bad)) => format!(in heap; "calls: {bad}"),
+            Err(Wrong::Lines(bad)) => format!(in heap; "lines: {bad}"),
+            Err(Wrong::Calls(bad)) => format!(in heap; "calls: {bad}"),
         }
     }
 

@@ -1,21 +1,23 @@
 -- What is answered, put together. Assumes nothing.
-use Rattle.std.proofs.Common.{◌≡◌, ℕ, ◌/◌, true, List, length, Some, None, Err, vec_items, vec_len, Option, unwrap_or, sym, refl, ap, inl, inr, arith}
-use Rattle.std.proofs.lemmas.Bool.{cases_Bool}
+use Rattle.std.proofs.Common.{◌≡◌, ℕ, ◌/◌, true, false, List, length, Some, None, Ok, Err, Result, MatchResult, vec_items, vec_len, Option, sym, refl, ap, inl, inr, arith}
+use Rattle.std.specs.Result.{is_ok, result_err}
+use Rattle.std.proofs.lemmas.Bool.{both_ways, cases_Bool}
 use Rattle.faults.specs.declared.Fault.{Fault}
-use Rattle.faults.specs.declared.Fault.TheVariants.{Memory}
 use Rattle.calls.specs.Call.{hut_count}
 use Rattle.calls.specs.Number.{numbers}
 use Rattle.calls.proofs.Numbers.{length-numbers}
-use Rattle.knowledge.specs.Outcome as outcomes
+use Rattle.knowledge.specs.declared.Outcome.{Outcome}
+use Rattle.knowledge.specs.Outcome.{Tells}
 use Rattle.lines.specs.Line.{line, or_else}
 use Rattle.lines.specs.Plan.{plan}
 use Rattle.plans.specs.declared.Plan.{Plan}
-use Rattle.rows.specs.Rows.{told, early}
+use Rattle.rows.specs.declared.table.Rows.{Rows}
+use Rattle.rows.specs.Rows.{huts, told, early, Rowed}
 use Rattle.routes.specs.Answer.{refusal, apart, Planned}
-use Rattle.sets.specs.declared.HutSet.{HutSet}
+use Rattle.checks.specs.declared.Wrong.{Wrong}
 use Rattle.checks.specs.declared.Wrong.TheVariants.{Calls}
 use Rattle.checks.specs.Call.{call_fault}
-use Rattle.checks.specs.Answer.{Checks}
+use Rattle.checks.specs.Answer.{Counts, Checks}
 use Rattle.checks.proofs.Calls.{none_refused}
 
 -- a plan that is the prescribed one has as many calls
@@ -40,14 +42,28 @@ huts_right n xs h =
 
 -- what is found by the rows is so by the lines that they tell
 pub by_lines :
-    (rows : List HutSet) (n : ℕ) (xs : List ℕ) (m : ℕ) (ys : List ℕ) (o : Option Fault) → length rows ≡ n → told rows ≡ line xs → o ≡ call_fault (length rows) (told rows) m ys →
+    (rows : Rows) (n : ℕ) (xs : List ℕ) (m : ℕ) (ys : List ℕ) (o : Option Fault) → huts rows ≡ n → told rows ≡ line xs → o ≡ call_fault (huts rows) (told rows) m ys →
     call_fault n (line xs) m ys ≡ o
 by_lines rows n xs m ys o size tells h = sym (rw (size, tells) at h)
 
+-- an answer that is no refusal
+pub counted : (n : ℕ) (xs : List ℕ) (r : Result ℕ Fault) → true ≡ is_ok r → Counts n xs r → refusal n xs ≡ None
+counted n xs (Ok k) ok h = h.0
+counted n xs (Err f) ok h = absurd (both_ways false refl (sym ok))
+
+pub rowed : (n : ℕ) (xs : List ℕ) (r : Result Rows Fault) (rows : Rows) → MatchResult r (λ v. ◌≡◌ {A = Result Rows (Wrong Fault)} (Ok rows) (Ok v)) (λ _. ⊥) → Rowed n xs r → (huts rows ≡ n) × (told rows ≡ line xs)
+rowed n xs (Ok v) rows e h = let same : rows ≡ v = cc in rw same (h.1, h.2)
+rowed n xs (Err f) rows e h = absurd e
+
+pub no_error : (r : Result (Unit {0}) Fault) → true ≡ is_ok r → result_err r ≡ None
+no_error (Ok u) ok = refl
+no_error (Err f) ok = absurd (both_ways false refl (sym ok))
+
 -- there is no memory to follow calls that are right
 pub calls_wanting :
-    (n : ℕ) (xs : List ℕ) (m : ℕ) (ys : List ℕ) (f : Fault) → refusal n xs ≡ None → call_fault n (line xs) m ys ≡ None → f ≡ unwrap_or (outcomes.refusal n ys) Memory →
-    Checks n xs m ys (Err (Calls f))
-calls_wanting n xs m ys f right fine h =
+    (n : ℕ) (xs : List ℕ) (m : ℕ) (ys : List ℕ) (r : Result Outcome Fault) (w : Wrong Fault) → refusal n xs ≡ None → call_fault n (line xs) m ys ≡ None → Tells n ys r →
+    MatchResult r (λ o. ◌≡◌ {A = Result Outcome (Wrong Fault)} (Err w) (Ok o)) (λ f. w ≡ Calls f) → Checks n xs m ys (Err w)
+calls_wanting n xs m ys (Ok o) w right fine tells e = absurd (let z : ◌≡◌ {A = ℕ} 0 1 = cc in omega arith)
+calls_wanting n xs m ys (Err f) w right fine tells e =
     let none = none_refused n (line xs) m ys (huts_right n xs (early_right n xs right)) fine in
-    inr (rw none at h, rw (right, fine))
+    rw e (inr (rw none at tells, rw (right, fine)))

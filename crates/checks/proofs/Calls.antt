@@ -1,5 +1,5 @@
 -- A list of calls looked at call by call. Assumes nothing.
-use Rattle.std.proofs.Common.{◌≡◌, ℕ, ◌-◌, ◌/◌, ◌%◌, ◌<◌, ◌≤◌, true, false, ◌&&◌, eqb, ltb, List, [], ◌∷◌, length, get_or, take, drop, Some, None, refl, inl, inr, arith}
+use Rattle.std.proofs.Common.{◌≡◌, ℕ, ◌-◌, ◌/◌, ◌%◌, ◌<◌, ◌≤◌, true, false, ◌&&◌, eqb, ltb, List, [], ◌∷◌, length, get_or, take, drop, vec_items, Some, None, refl, inl, inr, arith}
 use Rattle.std.proofs.lemmas.List.{take_rest}
 use Rattle.std.proofs.lemmas.Bool.{cases_Bool}
 use Rattle.std.proofs.lemmas.Bool.Decides.{nat_tests}
@@ -7,18 +7,18 @@ use Rattle.faults.specs.declared.Fault.{Fault}
 use Rattle.faults.specs.declared.Fault.TheVariants.{NoLine}
 use Rattle.calls.specs.Call.{hut_count}
 use Rattle.knowledge.specs.Outcome.{below, refusal}
-use Rattle.sets.specs.declared.HutSet.{HutSet}
-use Rattle.sets.specs.Set.{in_set}
+use Rattle.sets.specs.Set.{in_set, row_of}
 use Rattle.lines.specs.Line.{Lines}
-use Rattle.rows.specs.Rows.{row_of, told}
+use Rattle.rows.specs.declared.table.Rows.{Rows}
+use Rattle.rows.specs.Rows.{huts, told}
 use Rattle.checks.specs.Call.{fault_of, wrong_call, call_fault}
 
 -- two huts that are there, with a line between them or without
-pub along-line : (rows : List HutSet) (a e : ℕ) → a < length rows → e < length rows → in_set (row_of rows a) e ≡ true → None ≡ fault_of (length rows) (told rows) a e
+pub along-line : (rows : Rows) (a e : ℕ) → a < huts rows → e < huts rows → in_set (row_of (vec_items rows.of) a) e ≡ true → None ≡ fault_of (huts rows) (told rows) a e
 unfolding told
 along-line rows a e ha he t = grind (arith, nat_tests)
 
-pub no_line : (rows : List HutSet) (a e : ℕ) → a < length rows → e < length rows → in_set (row_of rows a) e ≡ false → Some NoLine ≡ fault_of (length rows) (told rows) a e
+pub no_line : (rows : Rows) (a e : ℕ) → a < huts rows → e < huts rows → in_set (row_of (vec_items rows.of) a) e ≡ false → Some NoLine ≡ fault_of (huts rows) (told rows) a e
 unfolding told
 no_line rows a e ha he f = grind (arith, nat_tests)
 

@@ -1,29 +1,43 @@
 // A list of calls held to the lines: what it comes to, beside the plan for these lines.
 #![tactic(auto)]
 
-ghost use Rattle.std.specs.Prelude.{◌≡◌, length, Some};
-ghost use Rattle.rows.specs.Rows.{told};
-ghost use Rattle.checks.specs.Answer.{Counts, Checks, report_shown};
+ghost use Rattle.std.specs.Prelude.{◌≡◌, Some};
+ghost use Rattle.std.specs.Result.{result_err};
+ghost use Rattle.rows.specs.Rows.{huts, told};
+ghost use Rattle.checks.specs.Answer.{Counts, Checks, IsMapped, report_shown};
 ghost use Rattle.checks.specs.Call.{fault_of, wrong_call, call_fault};
 
 use faults::Fault;
 use knowledge::Outcome;
-use sets::HutSet;
+use rows::Rows;
 use std::alloc::Global;
 use std::fmt;
 
 // What a check comes to: what the calls bring about, and how many calls the plan for the same lines has.
-#[derive(Clone, Copy)]
+#[derive(Clone, Copy, PartialEq, Eq, Debug)]
 pub struct Report {
     pub outcome: Outcome,
     pub plan: usize,
 }
 
 // Why there is no report: what is wrong with the lines, or with the calls.
-#[derive(Clone, Copy)]
-pub enum Wrong {
-    Lines(Fault),
-    Calls(Fault),
+#[derive(Clone, Copy, PartialEq, Eq, Debug)]
+pub enum Wrong<E> {
+    Lines(E),
+    Calls(E),
+}
+
+impl<E> Wrong<E> {
+    // What f makes of what is wrong, with the same of the two.
+    pub fn map<T, F: FnOnce(E) -> T>(self, f: F) -> Wrong<T>
+        requires { F.IsAlwaysCallable f }
+        ensures { IsMapped (F.post f) self result }
+    {
+        match self {
+            Wrong::Lines(e) => Wrong::Lines(f(e)),
+            Wrong::Calls(e) => Wrong::Calls(f(e)),
+        }
+    }
 }
 
 impl fmt::Display for Report {
@@ -35,45 +49,46 @@ impl fmt::Display for Report {
     }
 }
 
-// The fault of the call of hut a to hut e: a hut that isn't there, or no line between the two.
-fn call_fault(rows: &[HutSet], a: usize, e: usize) -> Option<Fault>
-    ensures { result ≡ fault_of (length rows.now) (told rows.now) a e }
+// Whether hut a may call hut e: both are there, and there is a line between the two.
+// The two huts of a call stay two numbers, as they stand in a list: a pair would be made only to be taken apart.
+fn call_fault(rows: &Rows, a: usize, e: usize) -> Result<(), Fault>
+    ensures { result_err result ≡ fault_of (huts rows.now) (told rows.now) a e }
 {
-    if a >= rows.len() || e >= rows.len() {
-        return Some(Fault::NoSuchHut);
+    let n = rows.of.len();
+    if a >= n || e >= n {
+        return Err(Fault::NoSuchHut);
     }
-    if rows[a].has(e) {
-        return None;
+    if !rows.of[a].has(e) {
+        return Err(Fault::NoLine);
     }
-    Some(Fault::NoLine)
+    Ok(())
 }
 
-// The fault of the first call that is wrong, if there is one.
-fn first_off(rows: &[HutSet], calls: &[u16]) -> Option<Fault>
-    ensures { result ≡ wrong_call (length rows.now) (told rows.now) calls.now }
+// Refuses calls for the first one that is wrong.
+fn first_off(rows: &Rows, calls: &[u16]) -> Result<(), Fault>
+    ensures { result_err result ≡ wrong_call (huts rows.now) (told rows.now) calls.now }
 {
     let mut left = calls;
+    // lines and calls are lent slices of numbers, two each, by a rule of the project: a pair at a time is taken off the front
     while let [a, e, rest @ ..] = left {
-        if let Some(fault) = call_fault(rows, usize::from(*a), usize::from(*e)) {
-            return Some(fault);
-        }
+        call_fault(rows, usize::from(*a), usize::from(*e))?;
         left = rest;
     }
-    None
+    Ok(())
 }
 
-// The fault for which calls that say that they are for m huts are refused, if there is one.
-fn fault_in(rows: &[HutSet], m: u16, calls: &[u16]) -> Option<Fault>
-    ensures { result ≡ call_fault (length rows.now) (told rows.now) m calls.now }
+// Refuses calls, which say that they are for m huts, for the first of their faults.
+fn fault_in(rows: &Rows, m: u16, calls: &[u16]) -> Result<(), Fault>
+    ensures { result_err result ≡ call_fault (huts rows.now) (told rows.now) m calls.now }
 {
-    if usize::from(m) != rows.len() {
-        return Some(Fault::NoSuchHut);
+    if usize::from(m) != rows.of.len() {
+        return Err(Fault::NoSuchHut);
     }
     if calls.len() % 2 == 1 {
-        return Some(Fault::Malformed);
+        return Err(Fault::Malformed);
     }
     if calls.len() / 2 > 4096 {
-        return Some(Fault::TooLong);
+        return Err(Fault::TooLong);
     }
     first_off(rows, calls)
 }
@@ -88,22 +103,19 @@ fn plan_size(heap: Global, n: u16, lines: &[u16]) -> Result<usize, Fault>
 
 // What the calls come to among n huts with these lines, beside the number of calls of the plan. The calls say that they are for m huts.
 // The lines or the calls are refused whole, or answered.
-pub fn check(heap: Global, n: u16, lines: &[u16], m: u16, calls: &[u16]) -> Result<Report, Wrong>
+// Each number of huts and its list stay two parameters: rules, clauses and C name them apart, and a clause about a struct that holds a slice is longer.
+pub fn check(
+    heap: Global,
+    n: u16,
+    lines: &[u16],
+    m: u16,
+    calls: &[u16],
+) -> Result<Report, Wrong<Fault>>
     ensures checks { Checks n lines.now m calls.now result }
 {
-    let plan = match plan_size(heap, n, lines) {
-        Ok(plan) => plan,
-        Err(fault) => return Err(Wrong::Lines(fault)),
-    };
-    let rows = match rows::rows_of(heap, n, lines) {
-        Ok(rows) => rows,
-        Err(fault) => return Err(Wrong::Lines(fault)),
-    };
-    if let Some(fault) = fault_in(&rows, m, calls) {
-        return Err(Wrong::Calls(fault));
-    }
-    match knowledge::who_knows(heap, n, calls) {
-        Ok(outcome) => Ok(Report { outcome, plan }),
-        Err(fault) => Err(Wrong::Calls(fault)),
-    }
+    let plan = plan_size(heap, n, lines).map_err(Wrong::Lines)?;
+    let rows = rows::rows_of(heap, n, lines).map_err(Wrong::Lines)?;
+    fault_in(&rows, m, calls).map_err(Wrong::Calls)?;
+    let outcome = knowledge::who_knows(heap, n, calls).map_err(Wrong::Calls)?;
+    Ok(Report { outcome, plan })
 }

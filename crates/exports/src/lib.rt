@@ -8,7 +8,7 @@ use faults::Fault;
 use knowledge::Outcome;
 use std::alloc::Global;
 
-// An answer as three numbers.
+// An answer as three numbers, the first for its kind: C takes no enum that holds values.
 fn code(answer: Result<Outcome, Fault>) -> [u64; 3]
     ensures { result ≡ code_of answer }
 {

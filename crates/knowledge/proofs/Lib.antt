@@ -1,4 +1,4 @@
-pub mod Sets
 pub mod Rows
+pub mod Finds
 pub mod Runs
 pub mod Single

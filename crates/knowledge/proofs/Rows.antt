@@ -1,65 +1,63 @@
 -- Rows of sets of huts: how they begin, and what a call makes of them. Assumes nothing.
-use Rattle.std.proofs.Common.{◌≡◌, ℕ, ◌+◌, ◌<◌, ◌≤◌, cond, ◌||◌, T, eqb, List, [], ◌∷◌, ◌++◌, length, set, refl, ap, inl, inr, arith}
-use Rattle.std.proofs.lemmas.List.{get_or_append_left, get_or_push, get_or-set_same, get_or-set_other, length_push, length-set}
+use Rattle.std.proofs.Common.{◌≡◌, ℕ, ◌<◌, ◌≤◌, Bool, cond, ◌&&◌, ◌||◌, T, eqb, ltb, List, [], ◌∷◌, length, get_or, set, map, Option, None, Some, MatchOption, ap, inl, inr, arith, ◌∙◌, sym}
+use Rattle.std.specs.List.{range_with_len}
+use Rattle.std.proofs.lemmas.List.{get_or-map, get_or-set_same, get_or-set_other, length-map, length-set}
+use Rattle.std.proofs.lemmas.List.FromFn.{get_or-map-range_with_len, length-map-range_with_len}
 use Rattle.std.proofs.lemmas.Bool.{cases_eq, cases_lt}
 use Rattle.std.proofs.lemmas.Bool.Decides.{nat_tests}
 use Rattle.calls.specs.Call.{Call, call, knows, with_either}
 use Rattle.calls.proofs.Known.{onward}
-use Rattle.knowledge.specs.Set.{has, Lowest}
-use Rattle.knowledge.specs.Row.{row, Stands, Full, Lack, Behind}
-use Rattle.knowledge.specs.declared.HutSet.{HutSet}
+use Rattle.sets.specs.Set.{in_set, row_of, LowestMissing}
+use Rattle.sets.specs.declared.HutSet.{HutSet}
+use Rattle.knowledge.specs.Row.{Stands, Full, Lack, Behind}
 
 -- no words
 abbrev empty : HutSet
 empty = record { words = [] }
 
-pub row_push_old : (rows : List HutSet) (s : HutSet) (i : ℕ) → i < length rows → row (rows ++ s ∷ []) i ≡ row rows i
-row_push_old rows s i l = ap (λ (t : HutSet). t.words) (get_or_append_left rows (s ∷ []) empty i l)
+-- the set of hut i alone, as a test
+abbrev pub alone : ℕ → ℕ → Bool
+alone i k = eqb i k && ltb k 1024
 
-pub row_push_new : (rows : List HutSet) (s : HutSet) (i : ℕ) → length rows ≡ i → row (rows ++ s ∷ []) i ≡ s.words
-row_push_new rows s i e = ap (λ (t : HutSet). t.words) (get_or_push rows s empty i e)
+pub alone_in : (s : HutSet) (i : ℕ) → ((k : ℕ) → in_set s k ≡ alone i k) → in_set s ≡ alone i
+alone_in s i same = λ d k. same k d
 
-pub row_set_same : (rows : List HutSet) (s : HutSet) (i : ℕ) → i < length rows → row (set rows i s) i ≡ s.words
-row_set_same rows s i l = ap (λ (t : HutSet). t.words) (get_or-set_same rows i s empty l)
-
-pub row_set_other : (rows : List HutSet) (s : HutSet) (i j : ℕ) → (j ≡ i → ⊥) → row (set rows i s) j ≡ row rows j
-row_set_other rows s i j ne = ap (λ (t : HutSet). t.words) (get_or-set_other rows i j s empty ne)
-
-pub stands_none : Stands 0 [] []
-stands_none = record { size = refl; bits = λ i k l. absurd (omega arith) }
-
--- one more hut, which knows itself
-pub stands_push : (m : ℕ) (rows : List HutSet) (s : HutSet) → Stands m rows [] → ((k : ℕ) → has s.words k ≡ eqb m k) → Stands (m + 1) (rows ++ s ∷ []) []
+-- a row for each of n huts, with the hut alone
+pub stands_alone : (n : ℕ) (rows : List HutSet) → n ≤ 1024 → map in_set rows ≡ map alone (range_with_len 0 n) → Stands n rows []
 unfolding knows
-stands_push m rows s before own =
+stands_alone n rows within e =
+    let size : length rows ≡ n = sym (length-map rows in_set) ∙ ap length e ∙ length-map-range_with_len alone 0 n in
     record {
-      size = rw length_push (omega arith);
+      size = size;
       bits =
           λ i k l.
-          elim (cases_eq i m) [
-            | inl same ↦ rw (row_push_new rows s i (omega arith)) (rw same (own k))
-            | inr apart ↦ rw (row_push_old rows s i (omega arith)) (before.bits i k (omega arith))
-          ];
+          let there : i < length rows = omega arith in
+          let row : get_or (map in_set rows) i (in_set empty) ≡ in_set (row_of rows i) = get_or-map in_set rows i empty (in_set empty) there in
+          let own : get_or (map alone (range_with_len 0 n)) i (in_set empty) ≡ alone i = get_or-map-range_with_len alone 0 n i i (in_set empty) l (omega arith) in
+          let same : in_set (row_of rows i) ≡ alone i = cc in
+          let at : in_set (row_of rows i) k ≡ alone i k = ap (λ (t : ℕ → Bool). t k) same in
+          at ∙ grind (arith, nat_tests);
     }
 
 -- two rows become the same set
-pub row_join : (rows : List HutSet) (s : HutSet) (a e i : ℕ) → a < length rows → e < length rows → row (set (set rows a s) e s) i ≡ cond (with_either i (call a e)) s.words (row rows i)
+pub row_join :
+    (rows : List HutSet) (s : HutSet) (a e i : ℕ) → a < length rows → e < length rows → row_of (set (set rows a s) e s) i ≡ cond (with_either i (call a e)) s (row_of rows i)
 row_join rows s a e i la le =
     let le' : e < length (set rows a s) = rw length-set le in
     elim (cases_eq i e) [
-      | inl same ↦ rw same (let r = row_set_same (set rows a s) s e le' in grind (arith, nat_tests))
+      | inl same ↦ rw same (let r = get_or-set_same (set rows a s) e s empty le' in grind (arith, nat_tests))
       | inr apart ↦
-          let r = row_set_other (set rows a s) s e i apart in
+          let r = get_or-set_other (set rows a s) e i s empty apart in
           elim (cases_eq i a) [
-            | inl same ↦ rw same (let q = row_set_same rows s a la in let r' = rw same at r in grind (arith, nat_tests))
-            | inr other ↦ let q = row_set_other rows s a i other in grind (arith, nat_tests)
+            | inl same ↦ rw same (let q = get_or-set_same rows a s empty la in let r' = rw same at r in grind (arith, nat_tests))
+            | inr other ↦ let q = get_or-set_other rows a i s empty other in grind (arith, nat_tests)
           ]
     ]
 
 -- a call: both rows become the set that has what either had
 pub stands_join :
     (n : ℕ) (rows : List HutSet) (cs : List Call) (a e : ℕ) (s : HutSet) → a < length rows → e < length rows → Stands n rows cs →
-    ((k : ℕ) → has s.words k ≡ (has (row rows a) k || has (row rows e) k)) → Stands n (set (set rows a s) e s) (call a e ∷ cs)
+    ((k : ℕ) → in_set s k ≡ (in_set (row_of rows a) k || in_set (row_of rows e) k)) → Stands n (set (set rows a s) e s) (call a e ∷ cs)
 unfolding knows
 stands_join n rows cs a e s la le before both =
     record {
@@ -74,35 +72,48 @@ stands_join n rows cs a e s la le before both =
           rw r (grind (arith, nat_tests));
     }
 
--- a hut with nobody missing
-pub full_from_lowest : (n : ℕ) (rows : List HutSet) (i r : ℕ) → Lowest n (row rows i) r → n ≤ r → Full n rows i
-full_from_lowest n rows i r h l k lk = h.before k (omega arith)
+-- Nobody forgets: who lacked none before a call lacks none after it.
+pub full_onward : (n : ℕ) (rows rows' : List HutSet) (cs : List Call) (c : Call) (i : ℕ) → Stands n rows cs → Stands n rows' (c ∷ cs) → i < n → Full n rows i → Full n rows' i
+full_onward n rows rows' cs c i old new l full k lk =
+    let t : T (knows cs i k) = rw (old.bits i k l) at (full k lk) in
+    rw (new.bits i k l) (onward cs c i k t)
 
--- one more hut that lacks none
-pub full_huts_more :
-    (n : ℕ) (rows : List HutSet) (from i : ℕ) → ((j : ℕ) → from ≤ j → j < i → Full n rows j) → Full n rows i → (j : ℕ) → from ≤ j → j < i + 1 → Full n rows j
-full_huts_more n rows from i before here j lo hi = elim (cases_eq j i) [ inl same ↦ rw same here | inr apart ↦ before j lo (omega arith) ]
-
-pub lack_from_lowest : (n : ℕ) (rows : List HutSet) (i r : ℕ) → Lowest n (row rows i) r → r < n → Lack n rows i
-lack_from_lowest n rows i r h l = record { hut = r; there = l; lacks = h.lacks l }
-
--- Nobody forgets: who lacked none before a call lacks none after it, so a search may go on where the last one ended.
+-- So a search may go on where the last one ended.
 pub behind_onward :
-    (n : ℕ) (rows rows' : List HutSet) (cs : List Call) (c : Call) (low r : ℕ) → Stands n rows cs → Stands n rows' (c ∷ cs) → Behind n rows 0 low → Behind n rows' low r → Behind n rows' 0 r
-behind_onward n rows rows' cs c low r old new before after =
+    (rows rows' : List HutSet) (cs : List Call) (c : Call) (i k : ℕ) (r : Option (ℕ × ℕ)) → Stands (length rows') rows cs → Stands (length rows') rows' (c ∷ cs) →
+    Lack rows 0 i k → Behind rows' i r → Behind rows' 0 r
+behind_onward rows rows' cs c i k None old new low none =
+    λ j since l. elim (cases_lt j i) [ inl less ↦ full_onward (length rows') rows rows' cs c j old new l (rw old.size at (low.before j since less)) | inr more ↦ none j more l ]
+behind_onward rows rows' cs c i k (Some p) old new low behind =
     record {
-      within = after.within;
       since = omega arith;
+      hut = behind.hut;
+      other = behind.other;
+      lowest = behind.lowest;
       before =
-          λ i lo hi.
-          elim (cases_lt i low) [
-            | inl l ↦
-                λ k lk.
-                let f = before.before i (omega arith) l k lk in
-                let b = old.bits i k (omega arith) in
-                let t : T (knows cs i k) = rw b at f in
-                rw (new.bits i k (omega arith)) (onward cs c i k t)
-            | inr l ↦ after.before i l hi
+          λ j since l.
+          let h : j < length rows' = omega (arith, behind.hut) in
+          elim (cases_lt j i) [
+            | inl less ↦ full_onward (length rows') rows rows' cs c j old new h (rw old.size at (low.before j since less))
+            | inr more ↦ behind.before j more l
           ];
-      lacks = after.lacks;
+    }
+
+-- what each row lacks tells which is the first that lacks any
+pub behind_found :
+    (rows : List HutSet) (f : ℕ) (r : Option (ℕ × ℕ)) →
+    MatchOption r
+    ((i : ℕ) → f ≤ i → i < length rows → LowestMissing (length rows) (row_of rows i) None)
+    (λ p.
+    (i : ℕ) × (f ≤ i) × (i < length rows) × ((p.0 ≡ i) × LowestMissing (length rows) (row_of rows i) (Some p.1))
+    × ((j : ℕ) → f ≤ j → j < i → LowestMissing (length rows) (row_of rows j) None)) →
+    Behind rows f r
+behind_found rows f None none = λ i since l k lk. (none i since l).before k lk
+behind_found rows f (Some p) (i, since, l, (same, (other, lowest)), none) =
+    record {
+      since = omega arith;
+      hut = omega arith;
+      other = other;
+      lowest = rw same lowest;
+      before = λ j since' l' k lk. (none j since' (omega arith)).before k lk;
     }

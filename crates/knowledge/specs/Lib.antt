@@ -1,4 +1,3 @@
-pub mod Set
 pub mod Row
 pub mod Outcome
 pub mod Law

@@ -4,19 +4,19 @@
 --     Says n xs o      the outcome o is right for the calls xs among n huts
 --     Tells n xs r     the answer r is the right outcome, or the right refusal
 -- A call of a hut with itself is no fault: nobody learns anything by it.
-use Rattle.std.specs.Prelude.{◌≡◌, ℕ, ◌*◌, ◌%◌, ◌<◌, ◌≤◌, Bool, true, false, cond, ◌&&◌, T, List, [], ◌∷◌, ◌++◌, length, take, Some, None, Ok, Err, codes, decimal, Option, Result, ◌==◌, nat_lt}
+use Rattle.std.specs.Prelude.{◌≡◌, ℕ, ◌*◌, ◌%◌, ◌<◌, ◌≤◌, Bool, false, cond, T, List, ◌++◌, length, take, Some, None, Ok, Err, codes, decimal, Option, Result, ◌==◌, nat_lt}
 use Rattle.calls.specs.Call.{hut_count, knows, AllKnow}
 use Rattle.calls.specs.Number.{calls}
 use Rattle.faults.specs.declared.Fault.{Fault}
 use Rattle.faults.specs.declared.Fault.TheVariants.{Malformed, NoSuchHut, Memory}
+use Rattle.std.specs.List.{list_all}
 use Rattle.std.specs.Option.{unwrap_or}
 use Rattle.knowledge.specs.declared.Outcome.{Outcome}
 use Rattle.knowledge.specs.declared.Outcome.TheVariants.{Complete, Lacks}
 
 -- every number is that of one of n huts
 abbrev pub below : ℕ → List ℕ → Bool
-below n [] = true
-below n (x ∷ xs) = nat_lt x n && below n xs
+below n xs = list_all (λ x. nat_lt x n) xs
 
 -- no huts or more than 1,024; else a number that is left alone; else a hut that isn't there
 abbrev pub refusal : ℕ → List ℕ → Option Fault

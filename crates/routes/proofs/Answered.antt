@@ -1,39 +1,43 @@
 -- Lists of lines that are refused, and those that are answered. Assumes nothing.
-use Rattle.std.proofs.Common.{◌≡◌, ℕ, ◌-◌, ◌<◌, ◌≤◌, true, false, not, eqb, ltb, List, length, Some, None, Ok, Err, Result, inl, inr, arith, MatchResult}
+use Rattle.std.proofs.Common.{◌≡◌, ℕ, ◌-◌, ◌<◌, ◌≤◌, true, false, not, ◌&&◌, eqb, ltb, List, Some, None, Ok, Err, Option, Result, inl, inr, arith, MatchResult}
 use Rattle.std.proofs.lemmas.Bool.Decides.{nat_tests}
 use Rattle.std.proofs.lemmas.Bool.{cases_Bool, cond-true, cond-false}
 use Rattle.faults.specs.declared.Fault.{Fault}
 use Rattle.faults.specs.declared.Fault.TheVariants.{NotJoined, Memory}
 use Rattle.plans.specs.declared.Plan.{Plan}
 use Rattle.sets.specs.declared.HutSet.{HutSet}
-use Rattle.sets.specs.Set.{in_set, Lowest}
+use Rattle.sets.specs.Set.{in_set, Lowest, LowestMissing}
 use Rattle.lines.specs.Line.{line}
 use Rattle.lines.specs.Way.{joined}
 use Rattle.lines.specs.Plan.{Joins}
 use Rattle.lines.proofs.Lines.{line-both, or_else_none}
 use Rattle.lines.proofs.Lowest.{some_from}
-use Rattle.rows.specs.Rows.{told, early}
+use Rattle.rows.specs.declared.table.Rows.{Rows}
+use Rattle.rows.specs.Rows.{huts, told, early}
+use Rattle.routes.specs.declared.reaching.Reach.{Reach}
 use Rattle.rows.proofs.Lines.{early_none}
 use Rattle.routes.specs.Answer.{alone, apart, refusal, Planned, Answers}
 use Rattle.routes.specs.Reach.{Reached}
 use Rattle.routes.proofs.Planned.{reached_by, all-joined, alone_is, told-both, told-apart}
 
-module _ (n : ℕ) (xs : List ℕ) (rows : List HutSet) (fine : early n xs ≡ None) (size : length rows ≡ n) (lined : told rows ≡ line xs) where
-  some_huts : 0 < length rows
-  some_huts = let p = early_none n xs fine in let one = p.0 in omega arith
+-- the set of just hut 0, which is below 1,024
+just_zero : (z : HutSet) → ((k : ℕ) → in_set z k ≡ (eqb 0 k && ltb k 1024)) → (k : ℕ) → in_set z k ≡ eqb 0 k
+just_zero z zeroth k = let e = zeroth k in grind (arith, nat_tests)
 
-  few_huts : length rows ≤ 1024
-  few_huts = let p = early_none n xs fine in let few = p.1 in omega arith
+-- the same where the number of huts is another word for n
+pub missing : (n h : ℕ) (s : HutSet) (o : Option ℕ) → h ≡ n → LowestMissing h s o → LowestMissing n s o
+missing n h s o e low = rw e at low
 
-  module _ (z s : HutSet) (ds rs : List ℕ) (r : ℕ) (zeroth : (k : ℕ) → in_set z k ≡ eqb 0 k) (at : Reached rows (in_set z) (length rows - 1) s ds rs) (low : Lowest n s r) where
-    pub from_zero : Reached rows (eqb 0) (length rows - 1) s ds rs
-    from_zero = reached_by rows z s (eqb 0) (length rows - 1) ds rs zeroth at
+module _ (n : ℕ) (xs : List ℕ) (rows : Rows) (fine : early n xs ≡ None) (size : huts rows ≡ n) (lined : told rows ≡ line xs) where
+  module _ (z : HutSet) (x : Reach) (r : ℕ) (zeroth : (k : ℕ) → in_set z k ≡ (eqb 0 k && ltb k 1024)) (at : Reached rows (in_set z) (huts rows - 1) x) (low : Lowest n x.huts r) where
+    pub from_zero : Reached rows (eqb 0) (huts rows - 1) x
+    from_zero = reached_by rows z (eqb 0) (huts rows - 1) x (just_zero z zeroth) at
 
-    low_row : Lowest (length rows) s r
+    low_row : Lowest (huts rows) x.huts r
     low_row = rw size low
 
     is_alone : alone n (line xs) ≡ r
-    is_alone = rw (size, lined) at (alone_is rows s ds rs r from_zero some_huts low_row)
+    is_alone = rw (size, lined) at (alone_is rows x r from_zero low_row)
 
     -- the lowest hut that is not reached is the refusal
     pub alone_refused : r < n → refusal n xs ≡ Some (NotJoined r)
@@ -47,13 +51,13 @@ module _ (n : ℕ) (xs : List ℕ) (rows : List HutSet) (fine : early n xs ≡ N
         let f : ltb r n ≡ false = grind (arith, nat_tests) in
         rw (fine, is_alone) (cond-false (ltb r n) (Some (NotJoined r)) None f)
 
-    pub rows_join : n ≤ r → Joins (length rows) (told rows)
-    rows_join l = record { both = told-both rows xs lined; all = all-joined rows s ds rs r from_zero some_huts low_row (omega arith) }
+    pub rows_join : n ≤ r → Joins (huts rows) (told rows)
+    rows_join l = record { both = told-both rows xs lined; all = all-joined rows x r from_zero low_row (omega arith) }
 
   pub rows_apart : (i : ℕ) → told rows i i ≡ false
   rows_apart = told-apart rows xs n lined (early_none n xs fine).2
 
-  pub answers : refusal n xs ≡ None → (a : Result Plan Fault) → MatchResult a (λ p. Planned (length rows) (told rows) p) (λ f. f ≡ Memory) → Answers n xs a
+  pub answers : refusal n xs ≡ None → (a : Result Plan Fault) → MatchResult a (λ p. Planned (huts rows) (told rows) p) (λ f. f ≡ Memory) → Answers n xs a
   answers ok (Ok p) h = (ok, rw (size, lined) at h)
   answers ok (Err f) h = inr (h, fine)
 

@@ -1,8 +1,9 @@
+pub mod Left
 pub mod Squares
 pub mod Rings
-pub mod Pairs
 pub mod Reaches
+pub mod Yielded
+pub mod Pairs
 pub mod Partners
-pub mod Written
 pub mod Planned
 pub mod Answered

@@ -1,16 +1,18 @@
 -- A ring: the huts that are reached with a line more. Assumes nothing.
-use Rattle.std.proofs.Common.{◌≡◌, ℕ, ◌+◌, ◌<◌, Bool, true, false, ◌&&◌, ◌||◌, eqb, ltb, List, [], ◌∷◌, ◌++◌, length, get_or, set, sym, refl, inl, inr, append_assoc, append-nil, add-one, arith}
+use Rattle.std.proofs.Common.{◌≡◌, ℕ, ◌+◌, ◌<◌, Bool, true, false, ◌&&◌, ◌||◌, eqb, ltb, [], ◌∷◌, ◌++◌, length, get_or, set, vec_items, sym, refl, inl, inr, append_assoc, append-nil, add-one, arith}
 use Rattle.std.proofs.lemmas.List.{get_or-set_same, get_or-set_other, length-set}
 use Rattle.std.proofs.lemmas.Bool.{cases_Bool, cases_eq}
 use Rattle.std.proofs.lemmas.Bool.Decides.{nat_tests}
 use Rattle.sets.specs.declared.HutSet.{HutSet}
-use Rattle.sets.specs.Set.{in_set, Meets}
+use Rattle.sets.specs.Set.{in_set, Meets, row_of}
 use Rattle.sets.proofs.Sets.{in_below}
 use Rattle.lines.specs.Way.{lowest, some}
 use Rattle.lines.specs.Row.{those}
 use Rattle.lines.proofs.Lowest.{some_from, some_at}
-use Rattle.rows.specs.Rows.{row_of}
-use Rattle.routes.specs.Ring.{fresh, Ringed}
+use Rattle.rows.specs.declared.table.Rows.{Rows}
+use Rattle.routes.specs.declared.reaching.Reach.{Reach}
+use Rattle.routes.specs.Fresh.{fresh}
+use Rattle.routes.specs.Ring.{Ringed}
 
 -- some hut is in both sets, as a test
 pub meets_some : (s t : HutSet) (r : Bool) → Meets s t 0 r → r ≡ some (λ j. in_set s j && in_set t j) 1024
@@ -28,63 +30,61 @@ meets_some s t false m =
       | inr none ↦ sym none
     ]
 
-pub fresh_no : (rows : List HutSet) (s : HutSet) (k : ℕ) → in_set s k ≡ true → false ≡ fresh rows s k
+pub fresh_no : (rows : Rows) (s : HutSet) (k : ℕ) → in_set s k ≡ true → false ≡ fresh rows s k
 unfolding fresh
 fresh_no rows s k t = grind arith
 
-pub fresh_is : (rows : List HutSet) (s : HutSet) (k : ℕ) (r : Bool) → in_set s k ≡ false → Meets (row_of rows k) s 0 r → r ≡ fresh rows s k
+pub fresh_is : (rows : Rows) (s : HutSet) (k : ℕ) (r : Bool) → in_set s k ≡ false → Meets (row_of (vec_items rows.of) k) s 0 r → r ≡ fresh rows s k
 unfolding fresh
-fresh_is rows s k r f m = let e = meets_some (row_of rows k) s r m in grind arith
+fresh_is rows s k r f m = let e = meets_some (row_of (vec_items rows.of) k) s r m in grind arith
 
-pub ringed_none : (rows : List HutSet) (s : HutSet) (d : ℕ) (ds : List ℕ) → Ringed rows 0 s d ds s ds
-ringed_none rows s d ds = record { set = λ k. grind (arith, nat_tests); far = λ k l. grind (arith, nat_tests); size = refl }
+module _ (rows : Rows) (m d : ℕ) (x : Reach) where
+  pub ringed_none : Ringed rows 0 d x x
+  unfolding those
+  ringed_none = record { set = λ k. grind (arith, nat_tests); far = λ k l. grind (arith, nat_tests); size = refl; listed = sym (append-nil (vec_items x.row)) }
 
--- one hut more that is not fresh
-pub ringed_skip :
-    (rows : List HutSet) (m : ℕ) (s : HutSet) (d : ℕ) (ds : List ℕ) (t : HutSet) (ds' : List ℕ) → fresh rows s m ≡ false → Ringed rows m s d ds t ds' → Ringed rows (m + 1) s d ds t ds'
-ringed_skip rows m s d ds t ds' f before =
-    record {
-      set =
-          λ k.
-          let b = before.set k in
-          elim (cases_eq k m) [ inl same ↦ let f' : fresh rows s k ≡ false = rw same f in grind (arith, nat_tests) | inr other ↦ grind (arith, nat_tests) ];
-      far =
-          λ k l.
-          let b = before.far k l in
-          elim (cases_eq k m) [ inl same ↦ let f' : fresh rows s k ≡ false = rw same f in grind (arith, nat_tests) | inr other ↦ grind (arith, nat_tests) ];
-      size = before.size;
-    }
+  -- one hut more that is not fresh
+  pub ringed_skip : (y : Reach) → fresh rows x.huts m ≡ false → Ringed rows m d x y → Ringed rows (m + 1) d x y
+  unfolding those
+  ringed_skip y f before =
+      record {
+        set =
+            λ k.
+            let b = before.set k in
+            elim (cases_eq k m) [ inl same ↦ let f' : fresh rows x.huts k ≡ false = rw same f in grind (arith, nat_tests) | inr other ↦ grind (arith, nat_tests) ];
+        far =
+            λ k l.
+            let b = before.far k l in
+            elim (cases_eq k m) [ inl same ↦ let f' : fresh rows x.huts k ≡ false = rw same f in grind (arith, nat_tests) | inr other ↦ grind (arith, nat_tests) ];
+        size = before.size;
+        listed = rw (add-one, f, append-nil (those (fresh rows x.huts) m)) before.listed;
+      }
 
--- one hut more that is fresh
-pub ringed_more :
-    (rows : List HutSet) (m : ℕ) (s : HutSet) (d : ℕ) (ds : List ℕ) (t t' : HutSet) (ds' : List ℕ) → fresh rows s m ≡ true → m < length ds →
-    ((k : ℕ) → in_set t' k ≡ ((eqb m k && ltb k 1024) || in_set t k)) → Ringed rows m s d ds t ds' → Ringed rows (m + 1) s d ds t' (set ds' m d)
-ringed_more rows m s d ds t t' ds' f lm into before =
-    record {
-      set =
-          λ k.
-          let b = before.set k in
-          let i = into k in
-          elim (cases_eq k m) [ inl same ↦ let f' : fresh rows s k ≡ true = rw same f in grind (arith, nat_tests) | inr other ↦ grind (arith, nat_tests) ];
-      far =
-          λ k l.
-          let b = before.far k l in
-          let size = before.size in
-          elim (cases_eq k m) [
-            | inl same ↦
-                let f' : fresh rows s k ≡ true = rw same f in
-                let here : get_or (set ds' m d) k 0 ≡ d = rw same (get_or-set_same ds' m d 0 (omega arith)) in
-                grind (arith, nat_tests)
-            | inr other ↦ let there : get_or (set ds' m d) k 0 ≡ get_or ds' k 0 = get_or-set_other ds' m k d 0 other in grind (arith, nat_tests)
-          ];
-      size = rw length-set before.size;
-    }
-
--- the row gets the hut, or stays
-pub row_more : (f : ℕ → Bool) (entry row : List ℕ) (m : ℕ) → f m ≡ true → row ≡ entry ++ those f m → row ++ (m ∷ []) ≡ entry ++ those f (m + 1)
-unfolding those
-row_more f entry row m t e = rw (add-one, t, e) (append_assoc entry (those f m) (m ∷ []))
-
-pub row_skip : (f : ℕ → Bool) (entry row : List ℕ) (m : ℕ) → f m ≡ false → row ≡ entry ++ those f m → row ≡ entry ++ those f (m + 1)
-unfolding those
-row_skip f entry row m t e = rw (add-one, t, append-nil (those f m)) e
+  -- one hut more that is fresh
+  pub ringed_more :
+      (y z : Reach) → fresh rows x.huts m ≡ true → m < length (vec_items x.distances) → m < 1024 → ((k : ℕ) → in_set z.huts k ≡ ((eqb m k && ltb k 1024) || in_set y.huts k)) →
+      vec_items z.distances ≡ set (vec_items y.distances) m d → vec_items z.row ≡ vec_items y.row ++ (m ∷ []) → Ringed rows m d x y → Ringed rows (m + 1) d x z
+  unfolding those
+  ringed_more y z f lm few into put pushed before =
+      record {
+        set =
+            λ k.
+            let b = before.set k in
+            let i = into k in
+            elim (cases_eq k m) [ inl same ↦ let f' : fresh rows x.huts k ≡ true = rw same f in grind (arith, nat_tests) | inr other ↦ grind (arith, nat_tests) ];
+        far =
+            λ k l.
+            let b = before.far k l in
+            let size = before.size in
+            elim (cases_eq k m) [
+              | inl same ↦
+                  let f' : fresh rows x.huts k ≡ true = rw same f in
+                  let here : get_or (vec_items z.distances) k 0 ≡ d = rw (put, same) (get_or-set_same (vec_items y.distances) m d 0 (omega arith)) in
+                  grind (arith, nat_tests)
+              | inr other ↦
+                  let there : get_or (vec_items z.distances) k 0 ≡ get_or (vec_items y.distances) k 0 = rw put (get_or-set_other (vec_items y.distances) m k d 0 other) in
+                  grind (arith, nat_tests)
+            ];
+        size = rw (put, length-set) before.size;
+        listed = rw (pushed, before.listed, add-one, f) (append_assoc (vec_items x.row) (those (fresh rows x.huts) m) (m ∷ []));
+      }

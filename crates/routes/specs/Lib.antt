@@ -1,4 +1,5 @@
 pub mod Seen
+pub mod Fresh
 pub mod Ring
 pub mod Near
 pub mod Pairs

@@ -1,16 +1,14 @@
--- The huts that are reached with a line more. Assumes nothing.
---     fresh rows s k                   hut k is not in the set s, and has a neighbour there
---     Ringed rows s d ds t ds'         with a line more the set t is reached, and each new hut is d lines away; ds and ds' are the distances before and after
-use Rattle.std.specs.Prelude.{◌≡◌, ℕ, ◌<◌, Bool, cond, not, ◌&&◌, ◌||◌, List, length, nat_lt, slice_index}
-use Rattle.sets.specs.declared.HutSet.{HutSet}
+-- A ring: the huts that are reached with a line more. Assumes nothing.
+--     Ringed rows m d x y    of the huts below m those that are fresh come to what is reached, x before and y after, and are d lines away
+use Rattle.std.specs.Prelude.{◌≡◌, ℕ, ◌<◌, cond, ◌&&◌, ◌||◌, ◌++◌, length, nat_lt, slice_index, vec_items}
 use Rattle.sets.specs.Set.{in_set}
-use Rattle.lines.specs.Way.{some}
-use Rattle.rows.specs.Rows.{row_of}
+use Rattle.lines.specs.Row.{those}
+use Rattle.rows.specs.declared.table.Rows.{Rows}
+use Rattle.routes.specs.declared.reaching.Reach.{Reach}
+use Rattle.routes.specs.Fresh.{fresh}
 
-unfoldable pub fresh : List HutSet → HutSet → ℕ → Bool
-fresh rows s k = not (in_set s k) && some (λ j. in_set (row_of rows k) j && in_set s j) 1024
-
-pub record Ringed (rows : List HutSet) (m : ℕ) (s : HutSet) (d : ℕ) (ds : List ℕ) (t : HutSet) (ds' : List ℕ) : Type 0 where
-  pub set : (k : ℕ) → in_set t k ≡ (in_set s k || ((nat_lt k m && nat_lt k 1024) && fresh rows s k))
-  pub far : (k : ℕ) → k < length ds → slice_index ds' k ≡ cond (nat_lt k m && fresh rows s k) d (slice_index ds k)
-  pub size : length ds' ≡ length ds
+pub record Ringed (rows : Rows) (m d : ℕ) (x y : Reach) : Type 0 where
+  pub set : (k : ℕ) → in_set y.huts k ≡ (in_set x.huts k || (nat_lt k m && fresh rows x.huts k))
+  pub far : (k : ℕ) → k < length (vec_items x.distances) → slice_index (vec_items y.distances) k ≡ cond (nat_lt k m && fresh rows x.huts k) d (slice_index (vec_items x.distances) k)
+  pub size : length (vec_items y.distances) ≡ length (vec_items x.distances)
+  pub listed : vec_items y.row ≡ vec_items x.row ++ those (fresh rows x.huts) m

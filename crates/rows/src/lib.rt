@@ -1,94 +1,82 @@
 // Lines as rows: for each hut the set of its neighbours.
 #![tactic(auto)]
 
-ghost use Rattle.std.specs.Prelude.{◌≡◌, ℕ, ◌<◌, ◌≤◌, true, false, ◌||◌, length, None, MatchResult};
-ghost use Rattle.faults.specs.declared.Fault.TheVariants.{Memory};
+ghost use Rattle.std.specs.Prelude.{◌≡◌, ℕ, ◌<◌, true, ◌||◌};
+ghost use Rattle.std.specs.Result.{result_err};
 ghost use Rattle.lines.specs.Line.{line, fault_of, wrong};
-ghost use Rattle.sets.specs.Set.{in_set};
-ghost use Rattle.rows.specs.Rows.{row_of, early, Rowed};
+ghost use Rattle.rows.specs.Rows.{huts, told, early, Rowed};
+
+mod table;
 
 use faults::Fault;
-use sets::HutSet;
 use std::alloc::Global;
+pub use table::Rows;
 
-// The fault of the line a, e among n huts, where the line before it was p, q: a hut that isn't there, or a line that doesn't rise.
-fn line_fault(n: u16, p: u16, q: u16, a: u16, e: u16) -> Option<Fault>
-    ensures { result ≡ fault_of n p q a e }
+// Whether a line among n huts is right, where the line before it is given: its huts are there, the lower one first, and it comes after the one before.
+fn line_fault(n: u16, before: (u16, u16), line: (u16, u16)) -> Result<(), Fault>
+    ensures { result_err result ≡ fault_of n before.0 before.1 line.0 line.1 }
 {
+    let (a, e) = line;
     if a >= n || e >= n {
-        return Some(Fault::NoSuchHut);
+        return Err(Fault::NoSuchHut);
     }
-    if a < e && (p < a || p == a && q < e) {
-        return None;
+    if a >= e || line <= before {
+        return Err(Fault::Unsorted);
     }
-    Some(Fault::Unsorted)
+    Ok(())
 }
 
-// The fault of the first line that is wrong, if there is one.
-fn first_fault(n: u16, lines: &[u16]) -> Option<Fault>
-    ensures { result ≡ wrong n lines.now }
+// Refuses lines for the first one that is wrong.
+fn first_fault(n: u16, lines: &[u16]) -> Result<(), Fault>
+    ensures { result_err result ≡ wrong n lines.now }
 {
-    let mut p = 0;
-    let mut q = 0;
+    let mut before = (0, 0);
     let mut left = lines;
+    // lines and calls are lent slices of numbers, two each, by a rule of the project: a pair at a time is taken off the front
     while let [a, e, rest @ ..] = left {
-        if let Some(fault) = line_fault(n, p, q, *a, *e) {
-            return Some(fault);
-        }
-        p = *a;
-        q = *e;
+        let line = (*a, *e);
+        line_fault(n, before, line)?;
+        before = line;
         left = rest;
     }
-    None
+    Ok(())
 }
 
-// The fault that a list of lines has in itself.
-fn fault_in(n: u16, lines: &[u16]) -> Option<Fault>
-    ensures { result ≡ early n lines.now }
+// Refuses a list of lines for the fault that it has in itself.
+// Its first two tests stand in `knowledge` too: a function for these six lines would be public, and need a definition and an edit of its own.
+fn fault_in(n: u16, lines: &[u16]) -> Result<(), Fault>
+    ensures { result_err result ≡ early n lines.now }
 {
     if !calls::is_hut_count(n) {
-        return Some(Fault::NoSuchHut);
+        return Err(Fault::NoSuchHut);
     }
     if lines.len() % 2 == 1 {
-        return Some(Fault::Malformed);
+        return Err(Fault::Malformed);
     }
     first_fault(n, lines)
 }
 
-// Huts without neighbours.
-fn no_rows(heap: Global, n: usize) -> Result<Vec<HutSet>, Fault>
-    ensures { MatchResult result (λ v. (length v.items ≡ n) × ((i k : ℕ) → i < n → in_set (row_of v.items i) k ≡ false)) (λ f. f ≡ Memory) }
-{
-    let mut rows = Vec::with_capacity(heap, n)?;
-    for hut in 0..n {
-        rows.push(HutSet::none())?;
-    }
-    Ok(rows)
-}
-
 // Each hut's neighbours go into its row.
-fn add_lines(rows: &mut [HutSet], lines: &[u16])
-    requires few { length rows.old ≤ 1024 }
-    requires there { (i k : ℕ) → line lines.now i k ≡ true → i < length rows.old }
-    ensures { (i k : ℕ) → i < length rows.old → in_set (row_of rows.new i) k ≡ (in_set (row_of rows.old i) k || line lines.now i k) }
+fn add_lines(rows: &mut Rows, lines: &[u16])
+    requires there { (i k : ℕ) → line lines.now i k ≡ true → i < huts rows.old }
+    ensures same { huts rows.new ≡ huts rows.old }
+    ensures added { (i k : ℕ) → told rows.new i k ≡ (told rows.old i k || line lines.now i k) }
 {
     let mut left = lines;
+    // lines and calls are lent slices of numbers, two each, by a rule of the project: a pair at a time is taken off the front
     while let [a, e, rest @ ..] = left {
-        let (a, e) = (usize::from(*a), usize::from(*e));
-        rows[a].insert(e);
-        rows[e].insert(a);
+        rows.join(usize::from(*a), usize::from(*e));
         left = rest;
     }
 }
 
 // For each hut the set of its neighbours: a list is refused whole, or answered.
-pub fn rows_of(heap: Global, n: u16, lines: &[u16]) -> Result<Vec<HutSet>, Fault>
+// n and the list stay two parameters: rules, clauses and C name them apart, and a clause about a struct that holds a slice is longer.
+pub fn rows_of(heap: Global, n: u16, lines: &[u16]) -> Result<Rows, Fault>
     ensures { Rowed n lines.now result }
 {
-    if let Some(fault) = fault_in(n, lines) {
-        return Err(fault);
-    }
-    let mut rows = no_rows(heap, usize::from(n))?;
+    fault_in(n, lines)?;
+    let mut rows = Rows::apart(heap, usize::from(n))?;
     add_lines(&mut rows, lines);
     Ok(rows)
 }

@@ -1,116 +1,47 @@
--- Sets of huts as bits of words: one hut more, all of a word, the join of two sets, what two have both, and the next hut of one. Assumes nothing.
-use Rattle.std.proofs.Common.{◌≡◌, ℕ, zero, suc, ◌+◌, ◌-◌, ◌*◌, ◌/◌, ◌%◌, ◌^◌, ◌<◌, ◌≤◌, Bool, true, false, ◌&&◌, ◌||◌, T, eqb, ltb, List, length, get_or, set, replicate, refl, ◌∙◌, inl, inr, arith}
-use native.Mathlib.Nat.{div-eq_of_lt, div_self}
-use lib.Bits.{bit_and, bit_or, and_step, or_step}
+-- Sets of huts as bits of words: one hut more, the join of two sets, what two have both, the lowest hut that words tell, and the list of a set's huts. Assumes nothing.
+use Rattle.std.proofs.Common.{◌≡◌, ℕ, zero, suc, ◌+◌, ◌-◌, ◌*◌, ◌/◌, ◌%◌, ◌^◌, ◌<◌, ◌≤◌, Bool, true, false, ◌&&◌, ◌||◌, eqb, ltb, List, [], ◌∷◌, length, get_or, set, replicate, refl, ◌∙◌, inl, inr, Option, None, Some, MatchOption, not, w64, arith}
+use Rattle.std.specs.Option.{is_some, unwrap_or}
+use Rattle.std.specs.Bool.{then_some}
+use native.Mathlib.Nat.{div-eq_of_lt, div-le_self}
+use lib.Bits.{bit_and, bit_or}
 use lib.Count.{count_trailing_zeros, under}
-use lib.Pow.{ones_split, ones_lt}
-use Rattle.std.proofs.lemmas.Nat.{pow_pos, pow-add, and_le_l, and_shr, or_shr, pow_below, shr_high, shr-shr, shr_below, shl-shr, leading_top}
-use Rattle.std.proofs.lemmas.List.{get_or-set_same, get_or-set_other, get_or_past, get_or-replicate, length-replicate, length-set}
-use Rattle.std.proofs.lemmas.Bool.{cases_eq, cases_lt, cases_order, and_parts}
+use Rattle.std.proofs.lemmas.Nat.{pow_pos, shr-shr, shr_below}
+use Rattle.std.proofs.lemmas.List.{get_or-set_same, get_or-set_other, get_or-replicate}
+use Rattle.std.proofs.lemmas.Bool.{cases_eq, cases_lt, and_parts}
 use Rattle.std.proofs.lemmas.Bool.Decides.{nat_tests as tells}
-use Rattle.sets.specs.Set.{has, in_set, Common, Meets, Next}
+use Rattle.sets.specs.Set.{has, in_set, Lowest, LowestMissing, Meets, Next, NextHut, huts_from}
+use Rattle.std.specs.List.{filter, range_with_len}
+use Rattle.sets.specs.Word.{bit, Tells, LowestTold}
+use Rattle.std.proofs.lemmas.Nat.Bits.{bit_at_not, bit_at_or, bit_at_and, bit_at-lt, bit_at-zero, bit_at-pow_same, bit_at-pow_other, bit_at-trailing_zeros, bit_at_above}
+use Rattle.std.specs.Int.{bit_not, bit_at}
+use Rattle.std.specs.Array.{IsFromFnResultFrom}
+use Rattle.std.specs.Fn.{Called}
+use denote.Param.Members.{Mut}
 use Rattle.sets.specs.declared.HutSet.{HutSet}
 
--- bit j of a word
-abbrev bit : ℕ → ℕ → Bool
-bit w j = eqb (w / 2 ^ j % 2) 1
+-- P gives a word i that is not 0
+abbrev pub Marked : (ℕ → ℕ → Type 0) → ℕ → Type 0
+Marked P i = (w : ℕ) × P i w × (w ≡ 0 → ⊥)
+
+-- or one that is 0
+abbrev pub Clear : (ℕ → ℕ → Type 0) → ℕ → Type 0
+Clear P i = (w : ℕ) × P i w × (w ≡ 0)
 
 -- a bit of two words that are joined by or
 pub bit_of_or : (a b j : ℕ) → bit (bit_or a b) j ≡ (bit a j || bit b j)
-bit_of_or a b j =
-    let x = a / 2 ^ j in
-    let y = b / 2 ^ j in
-    let e : bit_or a b / 2 ^ j ≡ bit_or x y = or_shr a b j in
-    let s = or_step x y in
-    grind (arith, tells)
+bit_of_or a b j = grind (arith, tells, bit_at_or a b j, bit_at-lt a j, bit_at-lt b j)
 
 -- a bit of two words that are joined by and
 pub bit_of_and : (a b j : ℕ) → bit (bit_and a b) j ≡ (bit a j && bit b j)
-bit_of_and a b j =
-    let x = a / 2 ^ j in
-    let y = b / 2 ^ j in
-    let e : bit_and a b / 2 ^ j ≡ bit_and x y = and_shr a b j in
-    let s = and_step x y in
-    grind (arith, tells)
-
-pub pow_mod_two : (k : ℕ) → 0 < k → 2 ^ k % 2 ≡ 0
-pow_mod_two k h =
-    let e : 2 ^ ((k - 1) + 1) ≡ 2 ^ (k - 1) * 2 = pow-add 2 (k - 1) 1 in
-    let s : (k - 1) + 1 ≡ k = omega arith in
-    let f : 2 ^ k ≡ 2 ^ (k - 1) * 2 = rw s at e in
-    omega arith
-
--- above the only bit, and below it, all bits are 0
-pub bit_above : (h j : ℕ) → h < j → 2 ^ h / 2 ^ j % 2 ≡ 0
-bit_above h j l = rw (div-eq_of_lt (pow_below h j l))
-
-pub bit_under : (h j : ℕ) → j < h → 2 ^ h / 2 ^ j % 2 ≡ 0
-bit_under h j l =
-    let d : (h - j) + j ≡ h = omega arith in
-    let e : 2 ^ h ≡ 2 ^ (h - j) * 2 ^ j = rw d at (pow-add 2 (h - j) j) in
-    rw (e, shl-shr (2 ^ (h - j)) j) (pow_mod_two (h - j) (omega arith))
+bit_of_and a b j = grind (arith, tells, bit_at_and a b j, bit_at-lt a j, bit_at-lt b j)
 
 -- the word with bit h alone
 pub bit_one : (h j : ℕ) → bit (2 ^ h) j ≡ eqb h j
 bit_one h j =
-    elim (cases_order h j) [
-      | inl same ↦ let e : 2 ^ h / 2 ^ j ≡ 1 = rw same (div_self (pow_pos j)) in grind (arith, tells)
-      | inr apart ↦
-          elim apart [ inl less ↦ let e = bit_above h j less in grind (arith, tells) | inr more ↦ let e = bit_under h j more in grind (arith, tells) ]
+    elim (cases_eq j h) [
+      | inl same ↦ let e : bit_at (2 ^ j) j ≡ 1 = bit_at-pow_same j in rw (← same) (grind (arith, tells))
+      | inr apart ↦ let e : bit_at (2 ^ h) j ≡ 0 = bit_at-pow_other h j apart in grind (arith, tells)
     ]
-
--- the word with all bits
-pub bit_full : (j : ℕ) → j < 64 → T (bit 18446744073709551615 j)
-bit_full j h =
-    let d : (64 - j) + j ≡ 64 = omega arith in
-    let e : 18446744073709551615 ≡ (2 ^ (64 - j) - 1) * 2 ^ j + (2 ^ j - 1) = rw d at (ones_split (64 - j) j) in
-    let q : 18446744073709551615 / 2 ^ j ≡ 2 ^ (64 - j) - 1 = rw e (shr_high (2 ^ (64 - j) - 1) j (2 ^ j - 1) (ones_lt j)) in
-    let z : 2 ^ (64 - j) % 2 ≡ 0 = pow_mod_two (64 - j) (omega arith) in
-    let p : 0 < 2 ^ (64 - j) = pow_pos (64 - j) in
-    grind (arith, tells)
-
--- a bit of a word below 2 ^ n that is set
-pub record SetBit (n w : ℕ) : Type 0 where
-  pub place : ℕ
-  pub within : place < n
-  pub is_set : bit w place ≡ true
-
--- a word that is not 0 has one: its highest
-pub set-bit : (n w : ℕ) → 0 < w → w < 2 ^ n → SetBit n w
-set-bit n w p l =
-    let top = leading_top n w p l in
-    let j : ℕ = top.0 in
-    let lo : 2 ^ j ≤ w = top.2 in
-    let hi : w < 2 ^ suc j = top.3 in
-    let e : 2 ^ (1 + j) ≡ 2 ^ 1 * 2 ^ j = pow-add 2 1 j in
-    let s : suc j ≡ 1 + j = omega arith in
-    let hi' : w < 2 ^ 1 * 2 ^ j = rw (s, e) at hi in
-    let q : (1 * 2 ^ j + (w - 2 ^ j)) / 2 ^ j ≡ 1 = shr_high 1 j (w - 2 ^ j) (omega arith) in
-    let r : 1 * 2 ^ j + (w - 2 ^ j) ≡ w = omega arith in
-    let v : w / 2 ^ j ≡ 1 = rw r at q in
-    record { place = j; within = omega (arith, top.1); is_set = rw v refl }
-
--- a hut's bit in the word that it stands in
-pub has_in : (ws : List ℕ) (k w : ℕ) → get_or ws (k / 64) 0 ≡ w → has ws k ≡ bit w (k % 64)
-unfolding has
-has_in ws k w e = rw e
-
-pub has_in_zero : (ws : List ℕ) (k : ℕ) → get_or ws (k / 64) 0 ≡ 0 → has ws k ≡ false
-has_in_zero ws k e =
-    let h = has_in ws k 0 e in
-    let z : 0 / 2 ^ (k % 64) ≡ 0 = div-eq_of_lt (pow_pos (k % 64)) in
-    grind (arith, tells)
-
--- past the last word no hut is in the set
-pub has_past : (ws : List ℕ) (k : ℕ) → length ws ≤ k / 64 → has ws k ≡ false
-has_past ws k l = has_in_zero ws k (get_or_past ws (k / 64) 0 l)
-
-pub getD-zeros : (n j : ℕ) → get_or {A = ℕ} (replicate n 0) j 0 ≡ 0
-getD-zeros n j = elim (cases_lt j n) [ inl l ↦ get_or-replicate n j 0 0 l | inr l ↦ get_or_past (replicate n 0) j 0 (rw length-replicate l) ]
-
--- no words but zeros
-pub has_none : (n k : ℕ) → has (replicate n 0) k ≡ false
-has_none n k = has_in_zero (replicate n 0) k (getD-zeros n (k / 64))
 
 -- hut h's bit is put in
 pub has_insert : (ws : List ℕ) (h : ℕ) → h / 64 < length ws → (k : ℕ) → has (set ws (h / 64) (bit_or (get_or ws (h / 64) 0) (2 ^ (h % 64)))) k ≡ (eqb h k || has ws k)
@@ -126,226 +57,204 @@ has_insert ws h l k =
       | inr apart ↦ rw (get_or-set_other ws (h / 64) (k / 64) w 0 apart) (grind (arith, tells))
     ]
 
--- what or with word i of another set puts in
-pub has_set_or : (ws vs : List ℕ) (i : ℕ) → i < length ws → (k : ℕ) → has (set ws i (bit_or (get_or ws i 0) (get_or vs i 0))) k ≡ (has ws k || (eqb (k / 64) i && has vs k))
-unfolding has
-has_set_or ws vs i l k =
-    let w : ℕ = bit_or (get_or ws i 0) (get_or vs i 0) in
-    elim (cases_eq (k / 64) i) [
-      | inl same ↦
-          let e : get_or (set ws i w) (k / 64) 0 ≡ bit_or (get_or ws (k / 64) 0) (get_or vs (k / 64) 0) = rw same (get_or-set_same ws i w 0 l) in
-          let b = bit_of_or (get_or ws (k / 64) 0) (get_or vs (k / 64) 0) (k % 64) in
-          rw e (grind (arith, tells))
-      | inr apart ↦ rw (get_or-set_other ws i (k / 64) w 0 apart) (grind (arith, tells))
+-- a list that calls of a closure gave one by one, if it stays as it is
+pub given_at :
+    {F : Type 0} {g : Mut F (ℕ × Unit {0}) ℕ} (f : F) (ys : List ℕ) (i n : ℕ) (h : ℕ → ℕ) → IsFromFnResultFrom g f ys i n →
+    ((j y : ℕ) (q : F) → Called g f (j, tt) y q → (q ≡ f) × (y ≡ h j)) → (k : ℕ) → i ≤ k → k < i + n → get_or ys k 0 ≡ h k
+given_at f ys i zero h each told k since l = absurd (omega arith)
+given_at f ys i (suc n) h (q, y, at, call, on) told k since l =
+    let t = told i y q call in
+    elim (cases_eq i k) [
+      | inl same ↦ rw (← same) (at.1 0 ∙ t.1)
+      | inr apart ↦ given_at f ys (i + 1) n h (rw t.0 at on) told k (omega arith) (omega arith)
     ]
-
--- a word with all its bits has all its huts
-pub has_full : (ws : List ℕ) (k : ℕ) → get_or ws (k / 64) 0 ≡ 18446744073709551615 → T (has ws k)
-unfolding has
-has_full ws k e = rw e (bit_full (k % 64) (omega arith))
-
--- the loop that joins us and vs word by word: the words ws, with those below i joined
-pub record JoinedBelow (i : ℕ) (us vs ws : List ℕ) : Type 0 where
-  pub size : length ws ≡ length us
-  pub bits : (k : ℕ) → has ws k ≡ (has us k || (ltb (k / 64) i && has vs k))
-
-pub joined_none : (us vs : List ℕ) → JoinedBelow 0 us vs us
-joined_none us vs = record { size = refl; bits = λ k. grind (arith, tells) }
-
-pub joined_more : (us vs ws : List ℕ) (i : ℕ) → i < length us → JoinedBelow i us vs ws → JoinedBelow (i + 1) us vs (set ws i (bit_or (get_or ws i 0) (get_or vs i 0)))
-joined_more us vs ws i l before =
-    record {
-      size = rw length-set before.size;
-      bits =
-          λ k.
-          let s = has_set_or ws vs i (omega arith) k in
-          let b = before.bits k in
-          grind (arith, tells);
-    }
-
-pub joined-all : (us vs ws : List ℕ) (i : ℕ) → length vs ≤ i → JoinedBelow i us vs ws → (k : ℕ) → has ws k ≡ (has us k || has vs k)
-joined-all us vs ws i l before k =
-    let b = before.bits k in
-    elim (cases_lt (k / 64) i) [ inl h ↦ grind (arith, tells) | inr h ↦ let p = has_past vs k (omega arith) in grind (arith, tells) ]
 
 -- a hut that is in a set is there
 pub in_below : (s : HutSet) (k : ℕ) → in_set s k ≡ true → k < 1024
 unfolding in_set
 in_below s k e = grind (arith, tells)
 
--- a hut that is there is in a set if its bit is set
-pub in_from_has : (s : HutSet) (k : ℕ) → k < 1024 → in_set s k ≡ has s.words k
-unfolding in_set
-in_from_has s k l = grind (arith, tells)
-
--- no bit, no hut
-pub in_none : (s : HutSet) → ((k : ℕ) → has s.words k ≡ false) → (k : ℕ) → in_set s k ≡ false
-unfolding in_set
-in_none s none k = let e = none k in grind (arith, tells)
-
 -- one more hut
 pub in_insert : (s t : HutSet) (h : ℕ) → h < 1024 → ((k : ℕ) → has t.words k ≡ (eqb h k || has s.words k)) → (k : ℕ) → in_set t k ≡ ((eqb h k && ltb k 1024) || in_set s k)
 unfolding in_set
 in_insert s t h l bits k = let b = bits k in grind (arith, tells)
 
--- the huts of both
-pub in_union : (s t u : HutSet) → ((k : ℕ) → has u.words k ≡ (has s.words k || has t.words k)) → (k : ℕ) → in_set u k ≡ (in_set s k || in_set t k)
-unfolding in_set
-in_union s t u bits k = let b = bits k in grind (arith, tells)
-
--- one more full word
-pub full_words_more : (s : HutSet) (i : ℕ) → i < 16 → get_or s.words i 0 ≡ 18446744073709551615 → ((k : ℕ) → k < 64 * i → T (in_set s k)) → (k : ℕ) → k < 64 * (i + 1) → T (in_set s k)
-full_words_more s i l e before k h =
-    elim (cases_lt k (64 * i)) [
-      | inl less ↦ before k less
-      | inr more ↦
-          let w : k / 64 ≡ i = omega arith in
-          rw (in_from_has s k (omega arith)) (has_full s.words k (rw w e))
-    ]
-
--- the bits that word i of two sets have both
-abbrev pub both : HutSet → HutSet → ℕ → ℕ
-both s t i = bit_and (get_or s.words i 0) (get_or t.words i 0)
-
--- a hut is in both sets exactly if they have both its bit
-pub in_both : (s t : HutSet) (k i j : ℕ) → k < 1024 → k / 64 ≡ i → k % 64 ≡ j → (in_set s k && in_set t k) ≡ bit (both s t i) j
-in_both s t k i j l word place =
-    let b = bit_of_and (get_or s.words i 0) (get_or t.words i 0) j in
-    let x : has s.words k ≡ bit (get_or s.words i 0) j = rw place at (has_in s.words k (get_or s.words i 0) (rw word refl)) in
-    let y : has t.words k ≡ bit (get_or t.words i 0) j = rw place at (has_in t.words k (get_or t.words i 0) (rw word refl)) in
-    rw (in_from_has s k l, in_from_has t k l, x, y, b) refl
-
--- a bit that word i has in both sets is a hut of both
-pub bit_common : (s t : HutSet) (f i j : ℕ) → i < 16 → j < 64 → f ≤ 64 * i + j → bit (both s t i) j ≡ true → Common s t f
-bit_common s t f i j l lj since e =
-    let k : ℕ = 64 * i + j in
-    let x = in_both s t k i j (omega arith) (omega arith) (omega arith) in
-    let z = and_parts (in_set s k) (in_set t k) (x ∙ e) in
-    record { hut = k; since = since; one = z.0; other = z.1 }
-
--- and there is one from place j on, if there what they have both is not 0
-pub word_common : (s t : HutSet) (f i j : ℕ) → i < 16 → j < 64 → f ≤ 64 * i + j → get_or s.words i 0 < 2 ^ 64 → (both s t i / 2 ^ j ≡ 0 → ⊥) → Common s t f
-word_common s t f i j l lj since fits some =
-    let d : (64 - j) + j ≡ 64 = omega arith in
-    let lw : both s t i < 2 ^ 64 = omega (arith, and_le_l (get_or s.words i 0) (get_or t.words i 0)) in
-    let b = set-bit (64 - j) (both s t i / 2 ^ j) (omega arith) (shr_below (both s t i) (64 - j) j (rw d lw)) in
-    let h : b.place < 64 - j = b.within in
-    bit_common s t f i (j + b.place) l (omega arith) (omega arith) (rw (shr-shr (both s t i) j b.place) at b.is_set)
-
-pub whole_common : (s t : HutSet) (f i : ℕ) → i < 16 → f ≤ 64 * i → get_or s.words i 0 < 2 ^ 64 → (both s t i ≡ 0 → ⊥) → Common s t f
-whole_common s t f i l since fits some = word_common s t f i 0 l (omega arith) (omega arith) fits (λ e. some (omega arith))
-
--- where there is no such bit, no hut of the word is in both
-pub word_apart : (s t : HutSet) (f i j : ℕ) → i < 16 → j < 64 → f ≡ 64 * i + j → both s t i / 2 ^ j ≡ 0 → (k : ℕ) → f ≤ k → k < 64 * (i + 1) → (in_set s k && in_set t k) ≡ false
-word_apart s t f i j l lj from none k since before =
-    let d : j + (k - f) ≡ k % 64 = omega arith in
-    let x = in_both s t k i (k % 64) (omega arith) (omega arith) refl in
-    let e : both s t i / 2 ^ j / 2 ^ (k - f) ≡ both s t i / 2 ^ (k % 64) = rw d at (shr-shr (both s t i) j (k - f)) in
-    let z : 0 / 2 ^ (k - f) ≡ 0 = div-eq_of_lt (pow_pos (k - f)) in
-    let v : both s t i / 2 ^ (k % 64) ≡ 0 = cc in
-    x ∙ rw v refl
-
-pub whole_apart : (s t : HutSet) (i : ℕ) → i < 16 → both s t i ≡ 0 → (k : ℕ) → 64 * i ≤ k → k < 64 * (i + 1) → (in_set s k && in_set t k) ≡ false
-whole_apart s t i l none = word_apart s t (64 * i) i 0 l (omega arith) (omega arith) (omega arith)
-
--- from 1,024 on no hut is in both
-pub past_apart : (s t : HutSet) (k : ℕ) → 1024 ≤ k → (in_set s k && in_set t k) ≡ false
-unfolding in_set
-past_apart s t k l = grind (arith, tells)
-
--- where none is in both from f to g, it comes to the huts from g on
-pub meets_onward : (s t : HutSet) (f g : ℕ) (r : Bool) → f ≤ g → ((k : ℕ) → f ≤ k → k < g → (in_set s k && in_set t k) ≡ false) → Meets s t g r → Meets s t f r
-meets_onward s t f g true l none some = record { hut = some.hut; since = omega (arith, some.since); one = some.one; other = some.other }
-meets_onward s t f g false l none apart = λ k since. elim (cases_lt k g) [ inl less ↦ none k since less | inr more ↦ apart k more ]
-
--- the digits of n below its lowest set digit are 0, whatever d its own lowest digit is and however many 0 stand there in n / 2
-zeros_under : (n d t j : ℕ) → n % 2 ≡ d → ((i : ℕ) → i < t → n / 2 / 2 ^ i % 2 ≡ 0) → j < under d t → n / 2 ^ j % 2 ≡ 0
-zeros_under n zero t zero e rest l = omega arith
-zeros_under n zero t (suc i) e rest l =
-    let s : suc i ≡ 1 + i = omega arith in
-    rw (s, ← shr-shr n 1 i) (rest i (omega arith))
-zeros_under n (suc d) t j e rest l = absurd (omega arith)
-
-zeros_before : (k n j : ℕ) → j < count_trailing_zeros k n → n / 2 ^ j % 2 ≡ 0
-unfolding count_trailing_zeros
-zeros_before zero n j l = absurd (omega arith)
-zeros_before (suc k) n j l = zeros_under n (n % 2) (count_trailing_zeros k (n / 2)) j refl (λ i. zeros_before k (n / 2) i) l
-
--- and the digit after them is 1
-one_over : (n d t k : ℕ) → n % 2 ≡ d → (t < k → n / 2 / 2 ^ t % 2 ≡ 1) → under d t < suc k → n / 2 ^ under d t % 2 ≡ 1
-one_over n zero t k e rest l =
-    let s : suc t ≡ 1 + t = omega arith in
-    rw (s, ← shr-shr n 1 t) (rest (omega arith))
-one_over n (suc d) t k e rest l = omega arith
-
-one_after : (k n : ℕ) → count_trailing_zeros k n < k → n / 2 ^ count_trailing_zeros k n % 2 ≡ 1
-unfolding count_trailing_zeros
-one_after zero n l = absurd (omega arith)
-one_after (suc k) n l = one_over n (n % 2) (count_trailing_zeros k (n / 2)) k refl (one_after k (n / 2)) l
-
 -- the lowest set bit of a word below 2 ^ n that is not 0
-pub record LowestBit (n w t : ℕ) : Type 0 where
-  pub within : t < n
-  pub is_set : bit w t ≡ true
-  pub before : (j : ℕ) → j < t → bit w j ≡ false
-
-pub lowest-bit : (n w : ℕ) → n ≤ 64 → 0 < w → w < 2 ^ n → LowestBit n w (count_trailing_zeros 64 w)
-lowest-bit n w l p h =
-    let b = set-bit n w p h in
-    let is : bit w b.place ≡ true = b.is_set in
+pub lowest-bit :
+    (n w : ℕ) → (w ≡ 0 → ⊥) → w < 2 ^ n → w < 2 ^ 64 →
+    (count_trailing_zeros 64 w < n) × (bit_at w (count_trailing_zeros 64 w) ≡ 1) × ((j : ℕ) → j < count_trailing_zeros 64 w → bit_at w j ≡ 0)
+lowest-bit n w some h fits =
     let t : ℕ = count_trailing_zeros 64 w in
-    let less : t < n = elim (cases_lt b.place t) [ inl l' ↦ let z = zeros_before 64 w b.place l' in absurd (grind (arith, tells)) | inr more ↦ omega (arith, b.within) ] in
-    let one = one_after 64 w (omega arith) in
-    record { within = less; is_set = rw one refl; before = λ j lj. rw (zeros_before 64 w j lj) refl }
+    let low = bit_at-trailing_zeros w64 w (omega arith) fits in
+    let less : t < n = elim (cases_lt t n) [ inl l' ↦ l' | inr more ↦ let z = bit_at_above w n t h more in absurd (omega (arith, low.1)) ] in
+    (less, low.1, low.2)
+
+-- from 1,024 on no hut is in a set
+pub past_all : (s : HutSet) (k : ℕ) → 1024 ≤ k → in_set s k ≡ false
+unfolding in_set
+past_all s k l = grind (arith, tells)
 
 -- a hut is in the set exactly if its word has its bit
-pub in_word : (s : HutSet) (k i j : ℕ) → k < 1024 → k / 64 ≡ i → k % 64 ≡ j → in_set s k ≡ bit (get_or s.words i 0) j
-in_word s k i j l word place = in_from_has s k l ∙ rw place at (has_in s.words k (get_or s.words i 0) (rw word refl))
+pub in_word : (s : HutSet) (k w : ℕ) → k < 1024 → w ≡ get_or s.words (k / 64) 0 → in_set s k ≡ bit w (k % 64)
+unfolding in_set has
+in_word s k w l e = rw e (grind (arith, tells))
 
--- and so with what is left of its word from place j on, where hut f stands
-pub in_left : (s : HutSet) (f i j k : ℕ) → i < 16 → j < 64 → f ≡ 64 * i + j → f ≤ k → k < 64 * (i + 1) → in_set s k ≡ bit (get_or s.words i 0 / 2 ^ j) (k - f)
-in_left s f i j k l lj from since before =
-    let d : j + (k - f) ≡ k % 64 = omega arith in
-    let e : get_or s.words i 0 / 2 ^ j / 2 ^ (k - f) ≡ get_or s.words i 0 / 2 ^ (k % 64) = rw d at (shr-shr (get_or s.words i 0) j (k - f)) in
-    in_word s k i (k % 64) (omega arith) (omega arith) refl ∙ rw e refl
+-- where no word has a bit, no hut is in the set
+pub in_none : (k : ℕ) → in_set (record { words = replicate 16 0 }) k ≡ false
+in_none k =
+    elim (cases_lt k 1024) [
+      | inl less ↦ rw (in_word _ k _ less refl, get_or-replicate {A = ℕ} 16 (k / 64) 0 0 (omega arith)) (grind (arith, tells, bit_at-zero (k % 64)))
+      | inr more ↦ past_all _ k more
+    ]
 
--- the next hut is the lowest bit of what is left, if that is not 0
-pub word_next :
-    (s : HutSet) (f i j : ℕ) → i < 16 → j < 64 → f ≡ 64 * i + j → get_or s.words i 0 < 2 ^ 64 → (get_or s.words i 0 / 2 ^ j ≡ 0 → ⊥) →
-    Next s f (f + count_trailing_zeros 64 (get_or s.words i 0 / 2 ^ j))
-word_next s f i j l lj from fits some =
-    let left : ℕ = get_or s.words i 0 / 2 ^ j in
-    let d : (64 - j) + j ≡ 64 = omega arith in
-    let low = lowest-bit (64 - j) left (omega arith) (omega arith) (shr_below (get_or s.words i 0) (64 - j) j (rw d fits)) in
-    let t : ℕ = count_trailing_zeros 64 left in
-    let h : t < 64 - j = low.within in
-    let past : (f + t) - f ≡ t = omega arith in
-    record {
-      within = omega arith;
-      is = λ _. (omega arith, in_left s f i j (f + t) l lj from (omega arith) (omega arith) ∙ rw past low.is_set);
-      none_between = λ k since before. in_left s f i j k l lj from since (omega arith) ∙ low.before (k - f) (omega arith);
-    }
+-- and in both sets exactly if both words have it
+pub in_both : (s t : HutSet) (k w : ℕ) → k < 1024 → w ≡ bit_and (get_or s.words (k / 64) 0) (get_or t.words (k / 64) 0) → (in_set s k && in_set t k) ≡ bit w (k % 64)
+in_both s t k w l e = rw (in_word s k _ l refl, in_word t k _ l refl, e, bit_of_and) refl
 
-pub whole_next : (s : HutSet) (i : ℕ) → i < 16 → get_or s.words i 0 < 2 ^ 64 → (get_or s.words i 0 ≡ 0 → ⊥) → Next s (64 * i) (64 * i + count_trailing_zeros 64 (get_or s.words i 0))
-whole_next s i l fits some =
-    let e : get_or s.words i 0 / 2 ^ 0 ≡ get_or s.words i 0 = omega arith in
-    rw e at (word_next s (64 * i) i 0 l (omega arith) (omega arith) fits (λ z. some (omega arith)))
+-- and in one or the other exactly if one of the words has it
+pub in_or :
+    (s t u : HutSet) → ((i : ℕ) → 0 ≤ i → i < 16 → get_or u.words i 0 ≡ bit_or (get_or s.words i 0) (get_or t.words i 0)) →
+    (k : ℕ) → in_set u k ≡ (in_set s k || in_set t k)
+in_or s t u words k =
+    elim (cases_lt k 1024) [
+      | inl less ↦ rw (in_word u k _ less refl, words (k / 64) (omega arith) (omega arith), in_word s k _ less refl, in_word t k _ less refl, bit_of_or) refl
+      | inr more ↦ rw (past_all u k more, past_all s k more, past_all t k more) refl
+    ]
 
--- and where it is 0, no hut of the word from f on is in the set
-pub word_without : (s : HutSet) (f i j : ℕ) → i < 16 → j < 64 → f ≡ 64 * i + j → get_or s.words i 0 / 2 ^ j ≡ 0 → (k : ℕ) → f ≤ k → k < 64 * (i + 1) → in_set s k ≡ false
-word_without s f i j l lj from none k since before =
+-- and is not in it exactly if the word with all bits turned has it
+pub out_of_word : (s : HutSet) (k w : ℕ) → k < 1024 → get_or s.words (k / 64) 0 < 2 ^ 64 → w ≡ 18446744073709551615 - get_or s.words (k / 64) 0 → not (in_set s k) ≡ bit w (k % 64)
+out_of_word s k w l fits e =
+    let b : bit_at (bit_not w64 (get_or s.words (k / 64) 0)) (k % 64) ≡ 1 - bit_at (get_or s.words (k / 64) 0) (k % 64) = bit_at_not w64 (get_or s.words (k / 64) 0) (k % 64) fits (omega arith) in
+    rw (in_word s k _ l refl, e) (grind (arith, tells, b))
+
+-- where nothing is left of the word of hut f, no hut of the word from f on has a bit
+pub clear_left : (P : ℕ → ℕ → Type 0) (f w : ℕ) → P (f / 64) w → w / 2 ^ (f % 64) ≡ 0 → (k : ℕ) → f ≤ k → k / 64 ≡ f / 64 → Tells P k false
+clear_left P f w given none k since same =
+    let d : f % 64 + (k - f) ≡ k % 64 = omega arith in
+    let e : w / 2 ^ (f % 64) / 2 ^ (k - f) ≡ w / 2 ^ (k % 64) = rw d at (shr-shr w (f % 64) (k - f)) in
     let z : 0 / 2 ^ (k - f) ≡ 0 = div-eq_of_lt (pow_pos (k - f)) in
-    let v : get_or s.words i 0 / 2 ^ j / 2 ^ (k - f) ≡ 0 = cc in
-    in_left s f i j k l lj from since before ∙ rw v refl
+    let v : w / 2 ^ (k % 64) ≡ 0 = cc in
+    (w, rw same given, rw v refl)
 
-pub whole_without : (s : HutSet) (i : ℕ) → i < 16 → get_or s.words i 0 ≡ 0 → (k : ℕ) → 64 * i ≤ k → k < 64 * (i + 1) → in_set s k ≡ false
-whole_without s i l none = word_without s (64 * i) i 0 l (omega arith) (omega arith) (omega arith)
+-- and none of a word that is 0
+pub clear_word : (P : ℕ → ℕ → Type 0) (k : ℕ) → Clear P (k / 64) → Tells P k false
+clear_word P k (w, given, none) = (w, given, rw (none, div-eq_of_lt (pow_pos (k % 64))) refl)
 
--- where none is in the set from f to g, the next from g on is the next from f on
-pub next_onward : (s : HutSet) (f g r : ℕ) → f ≤ g → ((k : ℕ) → f ≤ k → k < g → in_set s k ≡ false) → Next s g r → Next s f r
-next_onward s f g r l none on =
+pub clear_words :
+    (P : ℕ → ℕ → Type 0) (f w i : ℕ) → P (f / 64) w → w / 2 ^ (f % 64) ≡ 0 → ((k : ℕ) → f / 64 + 1 ≤ k → k < i → Clear P k) →
+    (k : ℕ) → f ≤ k → k < 64 * i → Tells P k false
+clear_words P f w i given none later k since before =
+    elim (cases_eq (k / 64) (f / 64)) [
+      | inl same ↦ clear_left P f w given none k since same
+      | inr apart ↦ clear_word P k (later (k / 64) (omega arith) (omega arith))
+    ]
+
+-- what is left of a hut's word has its lowest bit at the lowest hut
+pub lowest_left :
+    (P : ℕ → ℕ → Type 0) (f w : ℕ) → f < 1024 → P (f / 64) w → w < 2 ^ 64 → (w / 2 ^ (f % 64) ≡ 0 → ⊥) →
+    LowestTold P f (Some (f + count_trailing_zeros 64 (w / 2 ^ (f % 64))))
+lowest_left P f w l given fits some =
+    let j : ℕ = f % 64 in
+    let d : (64 - j) + j ≡ 64 = omega arith in
+    let left = shr_below w (64 - j) j (rw d fits) in
+    let t : ℕ = count_trailing_zeros 64 (w / 2 ^ j) in
+    let low = lowest-bit (64 - j) (w / 2 ^ j) some left (omega (arith, div-le_self w (2 ^ j))) in
+    let h : t < 64 - j = low.0 in
+    let at = λ (k : ℕ) (since : f ≤ k) (before : k ≤ f + t).
+    let place : j + (k - f) ≡ k % 64 = omega arith in
+    let e : w / 2 ^ j / 2 ^ (k - f) ≡ w / 2 ^ (k % 64) = rw place at (shr-shr w j (k - f)) in
+    e in
+    let past : (f + t) - f ≡ t = omega arith in
+    let same : (f + t) / 64 ≡ f / 64 = omega arith in
+    let is : bit_at w ((f + t) % 64) ≡ 1 = rw (← at (f + t) (omega arith) (omega arith), past) low.1 in
     record {
-      within = on.within;
-      is = λ h. (omega (arith, (on.is h).0), (on.is h).1);
-      none_between = λ k since before. elim (cases_lt k g) [ inl less ↦ none k since less | inr more ↦ on.none_between k more before ];
+      lowest = (
+        omega arith,
+        omega arith,
+        (w, rw same given, rw is refl),
+        λ k since before.
+            let same' : k / 64 ≡ f / 64 = omega arith in
+            let none : bit_at w (k % 64) ≡ 0 = rw (← at k since (omega arith)) (low.2 (k - f) (omega arith)) in
+            (w, rw same' given, rw none refl),
+      );
     }
+
+-- and where nothing is left, of the first later word that is not 0
+pub lowest_later :
+    (P : ℕ → ℕ → Type 0) (f w i v : ℕ) → P (f / 64) w → w / 2 ^ (f % 64) ≡ 0 → (f / 64 + 1 ≤ i) × (i < 16) × Marked P i × ((k : ℕ) → f / 64 + 1 ≤ k → k < i → Clear P k) →
+    ((j u u' : ℕ) → j < 16 → P j u → P j u' → u ≡ u') → P i v → v < 2 ^ 64 → LowestTold P f (Some (64 * i + count_trailing_zeros 64 v))
+lowest_later P f w i v given none (after, l, marked, later) steady found fits =
+    let some : v ≡ 0 → ⊥ = λ e. marked.2 (steady i marked.0 v l marked.1 found ∙ e) in
+    let t : ℕ = count_trailing_zeros 64 v in
+    let q : 64 * i / 64 ≡ i = omega arith in
+    let z : 64 * i % 64 ≡ 0 = omega arith in
+    let o : v / 2 ^ 0 ≡ v = omega arith in
+    let low : LowestTold P (64 * i) (Some (64 * i + t)) = rw (z, o) at (lowest_left P (64 * i) v (omega arith) (rw q found) fits (rw (z, o) some)) in
+    let (since, within, is, before) = low.lowest in
+    record { lowest = (omega arith, within, is, λ k from less. elim (cases_lt k (64 * i)) [ inl under ↦ clear_words P f w i given none later k from under | inr more ↦ before k more less ]) }
+
+-- the lowest hut from f on of which q is true, if there is one below 1,024
+abbrev pub LowestOf : (ℕ → Bool) → ℕ → Option ℕ → Type 0
+LowestOf q f r =
+    MatchOption r
+    ((k : ℕ) → f ≤ k → k < 1024 → q k ≡ false)
+    (λ h. (f ≤ h) × (h < 1024) × (q h ≡ true) × ((k : ℕ) → f ≤ k → k < h → q k ≡ false))
+
+-- where the words tell it
+pub lowest_of : (q : ℕ → Bool) (P : ℕ → ℕ → Type 0) (f : ℕ) (r : Option ℕ) → LowestTold P f r → ((k w : ℕ) → k < 1024 → P (k / 64) w → q k ≡ bit w (k % 64)) → LowestOf q f r
+lowest_of q P f None told tells = λ k since l. let t = told.lowest k since l in tells k t.0 l t.1 ∙ t.2
+lowest_of q P f (Some h) told tells =
+    let (since, l, is, before) = told.lowest in
+    (since, l, tells h is.0 l is.1 ∙ is.2, λ k after less. let t = before k after less in tells k t.0 (omega arith) t.1 ∙ t.2)
+
+pub next_hut : (s : HutSet) (f : ℕ) (r : Option ℕ) → LowestOf (in_set s) f r → NextHut s f r
+next_hut s f None none = record { within = omega arith; is = λ l. absurd (omega arith); none_between = λ k since l. none k since l }
+next_hut s f (Some h) (since, l, is, before) = (l, record { within = omega arith; is = λ _. (since, is); none_between = before })
+
+pub meets-from : (s t : HutSet) (f : ℕ) (r : Option ℕ) → LowestOf (λ k. in_set s k && in_set t k) f r → Meets s t f (is_some r)
+meets-from s t f None none = λ k since. elim (cases_lt k 1024) [ inl less ↦ none k since less | inr more ↦ let p = past_all s k more in grind (arith, tells) ]
+meets-from s t f (Some h) (since, l, is, before) = let z = and_parts (in_set s h) (in_set t h) is in record { hut = h; since = since; one = z.0; other = z.1 }
+
+-- the lowest hut that is not in the set, or 1,024
+pub lowest_lack : (s : HutSet) (r : Option ℕ) → LowestOf (λ k. not (in_set s k)) 0 r → Lowest 1024 s (unwrap_or r 1024)
+lowest_lack s None none = record { within = omega arith; before = λ k l. let e = none k (omega arith) l in grind (arith, tells); lacks = λ l. absurd (omega arith) }
+lowest_lack s (Some h) (since, l, is, before) =
+    record { within = omega arith; before = λ k less. let e = before k (omega arith) less in grind (arith, tells); lacks = λ _. grind (arith, tells) }
+
+pub lowest_below : (s : HutSet) (n r : ℕ) → Lowest 1024 s r → (b : Bool) → b ≡ ltb r n → LowestMissing n s (then_some b r)
+lowest_below s n r low true e =
+    let l : r < n = grind (arith, tells) in
+    (l, record { within = omega arith; before = low.before; lacks = λ _. elim (cases_lt r 1024) [ inl less ↦ low.lacks less | inr more ↦ past_all s r more ] })
+lowest_below s n r low false e =
+    let l : n ≤ r = grind (arith, tells) in
+    record { within = omega arith; before = λ k less. low.before k (omega arith); lacks = λ l. absurd (omega arith) }
+
+-- of the numbers from f on, what the test passes over falls away
+pub filter_none : (q : ℕ → Bool) (f n : ℕ) → ((k : ℕ) → f ≤ k → k < f + n → q k ≡ false) → filter q (range_with_len f n) ≡ []
+filter_none q f zero none = refl
+filter_none q f (suc n) none = rw (none f (omega arith) (omega arith)) (filter_none q (f + 1) n (λ k since l. none k (omega arith) (omega arith)))
+
+pub filter_next :
+    (q : ℕ → Bool) (f n h : ℕ) → f ≤ h → h < f + n → ((k : ℕ) → f ≤ k → k < h → q k ≡ false) → q h ≡ true →
+    filter q (range_with_len f n) ≡ h ∷ filter q (range_with_len (h + 1) (f + n - (h + 1)))
+filter_next q f zero h since l before is = absurd (omega arith)
+filter_next q f (suc n) h since l before is =
+    elim (cases_eq f h) [
+      | inl same ↦
+          let e : f + suc n - (h + 1) ≡ n = omega arith in
+          rw (e, same, is) refl
+      | inr apart ↦
+          let e : f + 1 + n ≡ f + suc n = omega arith in
+          let on = filter_next q (f + 1) n h (omega arith) (omega arith) (λ k after. before k (omega arith)) is in
+          rw (before f (omega arith) (omega arith)) (rw e at on)
+    ]
+
+-- the huts of a set from f on: none where there is no next, and else the next and those after it
+pub huts_none : (s : HutSet) (f : ℕ) → Next s f 1024 → huts_from s f ≡ []
+huts_none s f on = filter_none (in_set s) f (1024 - f) (λ k since l. on.none_between k since (omega arith))
+
+pub huts_next : (s : HutSet) (f h : ℕ) → h < 1024 → Next s f h → huts_from s f ≡ h ∷ huts_from s (h + 1)
+huts_next s f h l on =
+    let is = on.is l in
+    let e : f + (1024 - f) - (h + 1) ≡ 1024 - (h + 1) = omega (arith, is.0) in
+    rw e at (filter_next (in_set s) f (1024 - f) h is.0 (omega (arith, is.0)) on.none_between is.1)

@@ -1,32 +1,16 @@
-use Rattle.std.proofs.Common.{arith}
-use Rattle.knowledge.proofs.Rows.{full_from_lowest, full_huts_more, lack_from_lowest}
+use Rattle.std.proofs.Common.{◌≡◌, rules, length, Some, None}
+use Rattle.sets.specs.Set.{row_of, LowestMissing}
+use Rattle.knowledge.proofs.Finds.{found_in_range}
+use Rattle.knowledge.proofs.Rows.{behind_found}
 use Rattle.knowledge.proofs.first_lacking.Goals as goal
-
-pub returns-then-lowest_missing-n : goal.returns-then-lowest_missing-n
-returns-then-lowest_missing-n c =
-    record {
-      behind =
-          record {
-            within = omega arith;
-            since = omega arith;
-            before = c.loop-hut.invariant;
-            lacks = λ _. lack_from_lowest c.args.n c.args.rows.now c.loop-hut.hut c.lowest_missing.result c.lowest_missing.ensures.lowest c.if-lowest_missing-n.true;
-          };
-    }
-
-pub loop-hut-preserved : goal.loop-hut-preserved
-loop-hut-preserved c =
-    full_huts_more c.args.n c.args.rows.now c.args.from c.loop-hut.hut c.loop-hut.invariant
-    (full_from_lowest c.args.n c.args.rows.now c.loop-hut.hut c.lowest_missing.result c.lowest_missing.ensures.lowest c.if-lowest_missing-n.false)
 
 pub returns : goal.returns
 returns c =
-    record {
-      behind =
-          record {
-            within = omega arith;
-            since = omega arith;
-            before = λ i lo hi. c.loop-hut.invariant i lo (omega arith);
-            lacks = λ l. absurd (omega arith);
-          };
-    }
+    let rows = c.args.rows.now in
+    behind_found rows c.args.from c.find_map.result
+    (
+    found_in_range _ _ c.find_map.result (λ i p. (p.0 ≡ i) × LowestMissing (length rows) (row_of rows i) (Some p.1)) (λ i. LowestMissing (length rows) (row_of rows i) None) c.find_map.ensures.runs
+    (λ a r q k. search rules)
+    (λ x y k. search rules)
+    (λ x k. search rules)
+    )

@@ -1,14 +1,11 @@
-use Rattle.std.proofs.Common.{◌≡◌, vec_items, arith}
-use Rattle.knowledge.proofs.Rows.{stands_none, stands_push}
+use Rattle.std.proofs.Common.{rules, refl, arith}
+use Rattle.std.proofs.lemmas.Iterator.{items_from_drains, YieldsList-from_map_by, YieldsList-from_range}
+use Rattle.sets.specs.Set.{in_set}
+use Rattle.knowledge.proofs.Rows.{alone, alone_in, stands_alone}
 use Rattle.knowledge.proofs.start.Goals as goal
 
-pub loop-hut-init : goal.loop-hut-init
-loop-hut-init c = rw c.in_ok-rows.ensures.items stands_none
-
-pub loop-hut-preserved : goal.loop-hut-preserved
-loop-hut-preserved c =
-    rw c.in_ok-push.ensures.items
-    (stands_push c.loop-hut.hut (vec_items c.loop-hut.rows) c.only.result c.loop-hut.invariant c.only.ensures.just)
-
 pub returns : goal.returns
-returns c = let e : c.loop-hut.hut ≡ c.args.n = omega arith in record { stands = rw e at c.loop-hut.invariant }
+returns c =
+    let ran = c.in_ok-collect.ensures.ran in
+    let e = items_from_drains ran.0 ran.1 (YieldsList-from_map_by {s = c.map.result} _ in_set alone (YieldsList-from_range 0 c.args.n c.args.n c.map.ensures.source (omega arith)) c.map.ensures.closure (λ x r q k. (refl, alone_in r x (λ j. search rules)))) in
+    stands_alone c.args.n c.in_ok-collect.field-0.items (omega arith) (rw ran.2.0 e)

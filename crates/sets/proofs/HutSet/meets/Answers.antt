@@ -1,16 +1,10 @@
-use Rattle.std.proofs.Common.{◌+◌, ◌*◌, ◌/◌, ◌%◌, arith}
-use Rattle.sets.proofs.Sets.{word_common, word_apart, past_apart, meets_onward}
+use Rattle.std.proofs.Common.{rules, ◌&&◌}
+use Rattle.sets.specs.Set.{in_set}
+use Rattle.sets.proofs.Sets.{lowest_of, meets-from, in_both}
 use Rattle.sets.proofs.HutSet.meets.Goals as goal
-
-pub returns-then-from-ge1024 : goal.returns-then-from-ge1024
-returns-then-from-ge1024 c = λ k since. past_apart c.args.self.now c.args.other.now k (omega arith)
-
-pub returns-then-self-word-ne0 : goal.returns-then-self-word-ne0
-returns-then-self-word-ne0 c =
-    word_common c.args.self.now c.args.other.now c.args.from (c.args.from / 64) (c.args.from % 64) (omega arith) (omega arith) (omega arith) (omega arith) c.if-self-word-ne0.true
 
 pub returns : goal.returns
 returns c =
-    meets_onward c.args.self.now c.args.other.now c.args.from (64 * (c.args.from / 64 + 1)) c.words_meet.result (omega arith)
-    (word_apart c.args.self.now c.args.other.now c.args.from (c.args.from / 64) (c.args.from % 64) (omega arith) (omega arith) (omega arith) c.if-self-word-ne0.false)
-    c.words_meet.ensures
+    let s = c.args.self.now in
+    let t = c.args.other.now in
+    rw c.is_some.ensures (meets-from s t c.args.from c.lowest_in.result (lowest_of (λ k. in_set s k && in_set t k) _ c.args.from c.lowest_in.result c.lowest_in.ensures (λ k w l p. in_both s t k w l (search rules))))

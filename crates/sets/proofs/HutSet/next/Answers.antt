@@ -1,12 +1,9 @@
-use Rattle.std.proofs.Common.{◌+◌, ◌*◌, ◌/◌, ◌%◌, arith}
-use Rattle.sets.proofs.Sets.{word_next, word_without, next_onward}
+use Rattle.std.proofs.Common.{rules}
+use Rattle.sets.specs.Set.{in_set}
+use Rattle.sets.proofs.Sets.{lowest_of, next_hut, in_word}
 use Rattle.sets.proofs.HutSet.next.Goals as goal
-
-pub returns-then-left-ne0 : goal.returns-then-left-ne0
-returns-then-left-ne0 c = word_next c.args.self.now c.args.from (c.args.from / 64) (c.args.from % 64) (omega arith) (omega arith) (omega arith) (omega arith) c.if-left-ne0.true
 
 pub returns : goal.returns
 returns c =
-    next_onward c.args.self.now c.args.from (64 * (c.args.from / 64 + 1)) c.next_word.result (omega arith)
-    (word_without c.args.self.now c.args.from (c.args.from / 64) (c.args.from % 64) (omega arith) (omega arith) (omega arith) c.if-left-ne0.false)
-    c.next_word.ensures
+    let s = c.args.self.now in
+    next_hut s c.args.from c.lowest_in.result (lowest_of (in_set s) _ c.args.from c.lowest_in.result c.lowest_in.ensures (λ k w l p. in_word s k w l (search rules)))

@@ -1,12 +1,10 @@
-use Rattle.std.proofs.Common.{arith}
-use Rattle.sets.proofs.Sets.{joined_none, joined_more, joined-all, in_union}
+use Rattle.std.proofs.Common.{rules, get_or}
+use lib.Bits.{bit_or}
+use Rattle.sets.proofs.Sets.{in_or, given_at}
 use Rattle.sets.proofs.HutSet.union.Goals as goal
 
-pub loop-i-init : goal.loop-i-init
-loop-i-init c = joined_none c.args.self.now.words c.args.other.now.words
-
-pub loop-i-preserved : goal.loop-i-preserved
-loop-i-preserved c = joined_more c.args.self.now.words c.args.other.now.words c.loop-i.words c.loop-i.i (omega arith) c.loop-i.invariant
-
 pub returns : goal.returns
-returns c = in_union c.args.self.now c.args.other.now _ (joined-all c.args.self.now.words c.args.other.now.words c.loop-i.words c.loop-i.i (omega arith) c.loop-i.invariant)
+returns c =
+    let s = c.args.self.now in
+    let t = c.args.other.now in
+    in_or s t _ (given_at _ c.from_fn.result 0 16 (λ i. bit_or (get_or s.words i 0) (get_or t.words i 0)) c.from_fn.ensures.items.each (λ j y q p. search rules))

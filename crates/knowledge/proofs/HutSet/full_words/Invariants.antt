@@ -1,7 +1,0 @@
-use Rattle.std.proofs.Common.{ℕ, ◌*◌, ◌<◌, T}
-use Rattle.knowledge.specs.Set.{has}
-use Rattle.knowledge.proofs.HutSet.full_words.Given as goal
-
--- the words below i have all their bits
-abbrev pub invariant-loop-i : goal.invariant-loop-i
-invariant-loop-i l = (k : ℕ) → k < 64 * l.i → T (has l.self.words k)

@@ -1,6 +1,0 @@
-use Rattle.knowledge.proofs.Sets.{JoinedBelow}
-use Rattle.knowledge.proofs.HutSet.union.Given as goal
-
--- the words below i are joined
-abbrev pub invariant-loop-i : goal.invariant-loop-i
-invariant-loop-i l = JoinedBelow l.i l.self.words l.other.words l.words
