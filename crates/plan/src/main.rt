@@ -40,7 +40,9 @@ fn text(heap: Global, n: u16) -> Result<String, Fault>
 fn planned<'a>(heap: Global, word: &'a str) -> Result<String, Failure<'a>>
     ensures answered { Answered word.now result }
 {
-    let n = texts::number(word.as_bytes()).ok_or(Failure::NoNumber(word))?;
+    let Some(n) = texts::number(word.as_bytes()) else {
+        return Err(Failure::NoNumber(word));
+    };
     text(heap, n).map_err(|fault| Failure::Bad(word, Bad::Refused(fault)))
 }
 

@@ -1,13 +1,11 @@
 -- The pairs of a text gathered line by line. Assumes nothing.
 use Rattle.std.proofs.Common.{◌≡◌, true, false, if◌then◌else◌, ℕ, ◌+◌, List, [], ◌∷◌, ◌++◌, drop, slice_get, Some, None, Ok, Err, Option, Result, MatchOption, MatchResult, option_map, Bor, sym, refl, ap, ◌∙◌, append_assoc, append-nil}
-use Rattle.std.specs.Option.{ok_or}
 use Rattle.std.specs.Result.{is_ok}
 use Rattle.std.specs.List.{enumerate_from}
 use Rattle.std.proofs.lemmas.Iterator.{YieldsList}
 use Rattle.std.specs.declared.alloc.AllocError.{AllocError}
 use Rattle.texts.specs.Lines.{words_of}
 use Rattle.texts.specs.Reading.{sole_number, further_of, on_line, pairs_from, with_huts, listing_of, unread_of, unreadable}
-use Rattle.texts.specs.declared.Unread.{Unread}
 use Rattle.texts.specs.declared.Unread.TheVariants.{Line, Memory}
 
 -- the first line decides whether there is a list
@@ -19,9 +17,9 @@ listed [] (Some l) huts e h = absurd (cc)
 listed (x ∷ lines) None huts e h = absurd (cc)
 listed (x ∷ lines) (Some l) huts e h = let same : l.now ≡ x = cc in rw (h, same) refl
 
-pub no_huts : (huts : Option ℕ) (rest : Result (List ℕ) ℕ) (all : Result (ℕ × List ℕ) ℕ) (u : Unread) → with_huts huts rest ≡ all → Err u ≡ ok_or huts (Line 1) → u ≡ unread_of all
-no_huts None rest all u e f = let g : u ≡ Line 1 = cc in g ∙ ap unread_of e
-no_huts (Some n) rest all u e f = absurd (cc)
+pub no_huts : (huts : Option ℕ) (rest : Result (List ℕ) ℕ) (all : Result (ℕ × List ℕ) ℕ) → with_huts huts rest ≡ all → huts ≡ None → Line 1 ≡ unread_of all
+no_huts None rest all e f = ap unread_of e
+no_huts (Some n) rest all e f = absurd (cc)
 
 -- numbers that were read, and then what further lines give
 abbrev pub joined : List ℕ → Result (List ℕ) ℕ → Result (List ℕ) ℕ

@@ -113,7 +113,9 @@ pub fn read(heap: Global, text: &[u8]) -> Result<Listing, Unread>
     ensures { Reads text.now result }
 {
     let mut lines = text.split(|b| *b == b'\n');
-    let huts = lines.next().and_then(sole_number).ok_or(Unread::Line(1))?;
+    let Some(huts) = lines.next().and_then(sole_number) else {
+        return Err(Unread::Line(1));
+    };
     let mut pairs = Vec::new(heap);
     // Whether there was memory for every pair so far. Where there wasn't, the lines are still read, for one that can't be.
     let mut gathered = Ok(());
