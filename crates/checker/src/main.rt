@@ -7,6 +7,7 @@ use checks::Wrong;
 use faults::Fault;
 use std::alloc::Global;
 use std::process::ExitCode;
+use texts::Listing;
 use tool::{Bad, Failure, Program, Takes, Words};
 
 const CHECKER: Program = Program {
@@ -34,11 +35,11 @@ line is wrong; then nothing is printed on standard output.
 ",
 };
 
-// What is printed for calls that say that they are for m huts, among n huts with these lines.
-fn text(heap: Global, n: u16, lines: &[u16], m: u16, calls: &[u16]) -> Result<String, Wrong<Fault>>
-    ensures prints { Prints n lines.now m calls.now result }
+// What is printed for calls, among huts with these lines.
+fn text(heap: Global, lines: &Listing, calls: &Listing) -> Result<String, Wrong<Fault>>
+    ensures prints { Prints lines.now.huts lines.now.pairs.items calls.now.huts calls.now.pairs.items result }
 {
-    let report = checks::check(heap, n, lines, m, calls)?;
+    let report = checks::check(heap, lines.huts, &lines.pairs, calls.huts, &calls.pairs)?;
     report
         .to_string(heap)
         .map_err(|_| Wrong::Calls(Fault::Memory))
@@ -50,7 +51,7 @@ fn checked(heap: Global, lines: &[u8], calls: &[u8]) -> Result<String, Wrong<Bad
 {
     let lines = texts::read(heap, lines).map_err(|unread| Wrong::Lines(Bad::Unread(unread)))?;
     let calls = texts::read(heap, calls).map_err(|unread| Wrong::Calls(Bad::Unread(unread)))?;
-    let text = text(heap, lines.huts, &lines.pairs, calls.huts, &calls.pairs);
+    let text = text(heap, &lines, &calls);
     text.map_err(|wrong| wrong.map(Bad::Refused))
 }
 

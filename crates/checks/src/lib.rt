@@ -10,7 +10,7 @@ ghost use Rattle.checks.specs.Call.{fault_of, wrong_call, call_fault};
 use faults::Fault;
 use knowledge::Outcome;
 use rows::Rows;
-use std::alloc::Global;
+use std::alloc::Global; // the allocator: a parameter of its own in each function that takes memory, as the language has it
 use std::fmt;
 
 // What a check comes to: what the calls bring about, and how many calls the plan for the same lines has.
@@ -103,7 +103,7 @@ fn plan_size(heap: Global, n: u16, lines: &[u16]) -> Result<usize, Fault>
 
 // What the calls come to among n huts with these lines, beside the number of calls of the plan. The calls say that they are for m huts.
 // The lines or the calls are refused whole, or answered.
-// Each number of huts and its list stay two parameters: rules, clauses and C name them apart, and a clause about a struct that holds a slice is longer.
+// Lines and calls, and each number of huts and its list, stay parameters of their own: rules and clauses name them apart, and a clause about a struct that holds a slice is longer.
 pub fn check(
     heap: Global,
     n: u16,

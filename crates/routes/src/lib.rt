@@ -23,7 +23,7 @@ use faults::Fault;
 use plans::{Plan, Square};
 use rows::Rows;
 use sets::HutSet;
-use std::alloc::Global;
+use std::alloc::Global; // the allocator: a parameter of its own in each function that takes memory, as the language has it
 
 // The smallest square, left at the first that is found: b goes from neighbour to neighbour of a and c of b, and only where some hut beyond b has lines to a and to
 // c is d looked for.
@@ -32,7 +32,7 @@ fn smallest_square(rows: &Rows) -> Option<Square>
 {
     let n = rows.of.len();
     'search: {
-        // four nested loops over huts, left by a label, by a rule of the project: a goes over all of them
+        // four nested loops over huts, left by a label, by a rule of the project; a is a number, as b, c and d are, and rows are read by all of them
         for a in 0..n {
             for b in rows.of[a].huts(a + 1) {
                 for c in rows.of[b].huts(a + 1) {
@@ -59,6 +59,7 @@ fn smallest_square(rows: &Rows) -> Option<Square>
 fn nearer(neighbours: &HutSet, distances: &[u16], than: u16) -> Option<usize>
     ensures { Nearer neighbours.now distances.now than result }
 {
+    // by number, since the number is what is found
     (0..distances.len()).find(|hut| distances[*hut] < than && neighbours.has(*hut))
 }
 
@@ -183,7 +184,7 @@ fn without_square(heap: Global, rows: &Rows, near: &Reach) -> Result<Vec<u16>, F
     straight_calls(heap, &ties)
 }
 
-// The calls for rows that join all huts, and their square. What is reached stays apart from the rows: with a square another middle reaches along the same rows.
+// The calls for rows that join all huts, and their square. What is reached, and the ties along it, stay apart from the rows: with a square another middle reaches along the same rows.
 fn plan_for(heap: Global, rows: &Rows, near: &Reach) -> Result<Plan, Fault>
     requires reached { Reached rows.now (nat_eq 0) (huts rows.now - 1) near.now }
     requires joins { Joins (huts rows.now) (told rows.now) }
@@ -199,7 +200,7 @@ fn plan_for(heap: Global, rows: &Rows, near: &Reach) -> Result<Plan, Fault>
 }
 
 // The plan for n huts with these lines, two numbers each, the lower hut first, rising: exactly the prescribed one, or a refusal.
-// n and the list stay two parameters: rules, clauses and C name them apart, and a clause about a struct that holds a slice is longer.
+// n and the list stay two parameters: rules and clauses name them apart, and a clause about a struct that holds a slice is longer.
 pub fn for_lines(heap: Global, n: u16, lines: &[u16]) -> Result<Plan, Fault>
     ensures answers { Answers n lines.now result }
 {

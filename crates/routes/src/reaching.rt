@@ -56,7 +56,7 @@ impl Reach {
         ensures { MatchResult result (λ _. Ringed rows.now (huts rows.now) d self.old self.new) (λ f. f ≡ Memory) }
     {
         let reached = self.huts;
-        // by number, and not over `self.distances.iter_mut().enumerate()`: a proof does not see what is written through an adapter of `iter_mut`
+        // by number: `is_fresh`, the set and the row all ask for it, and one index is no harder to read than `self.distances.iter_mut().enumerate()`
         for hut in 0..rows.of.len() {
             if is_fresh(rows, &reached, hut) {
                 self.huts.insert(hut);

@@ -9,7 +9,7 @@ ghost use Rattle.rows.specs.Rows.{huts, told, early, Rowed};
 mod table;
 
 use faults::Fault;
-use std::alloc::Global;
+use std::alloc::Global; // the allocator: a parameter of its own in each function that takes memory, as the language has it
 pub use table::Rows;
 
 // Whether a line among n huts is right, where the line before it is given: its huts are there, the lower one first, and it comes after the one before.
@@ -71,7 +71,7 @@ fn add_lines(rows: &mut Rows, lines: &[u16])
 }
 
 // For each hut the set of its neighbours: a list is refused whole, or answered.
-// n and the list stay two parameters: rules, clauses and C name them apart, and a clause about a struct that holds a slice is longer.
+// n and the list stay two parameters: rules and clauses name them apart, and a clause about a struct that holds a slice is longer.
 pub fn rows_of(heap: Global, n: u16, lines: &[u16]) -> Result<Rows, Fault>
     ensures { Rowed n lines.now result }
 {

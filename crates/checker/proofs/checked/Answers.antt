@@ -27,6 +27,6 @@ answered lines calls P (Err w) (Err v) h k e = blamed lines calls w v h (k w v e
 
 pub returns : goal.returns
 returns c =
-    let first : listing c.args.lines.now ≡ Ok (c.in_ok-lines.lines.huts, c.deref.result.now) = search rules in
-    let second : listing c.args.calls.now ≡ Ok (c.in_ok-calls.calls.huts, c.deref-2.result.now) = search rules in
+    let first : listing c.args.lines.now ≡ Ok (c.in_ok-lines.lines.huts, c.in_ok-lines.lines.pairs.items) = search rules in
+    let second : listing c.args.calls.now ≡ Ok (c.in_ok-calls.calls.huts, c.in_ok-calls.calls.pairs.items) = search rules in
     record { answered = answered c.args.lines.now c.args.calls.now _ c.text-text.result _ (_, _, _, _, first, second, c.text-text.ensures.prints) (λ w v l. search rules) c.map_err-3.ensures.cases }
