@@ -5,11 +5,11 @@ use Rattle.std.specs.Bool.{then_some}
 use native.Mathlib.Nat.{div-eq_of_lt, div-le_self}
 use lib.Bits.{bit_and, bit_or}
 use lib.Count.{count_trailing_zeros, under}
-use Rattle.std.proofs.lemmas.Nat.{pow_pos, shr-shr, shr_below}
-use Rattle.std.proofs.lemmas.List.{get_or-set_same, get_or-set_other, get_or-replicate}
+use Rattle.std.proofs.lemmas.Nat.{pow_pos, and_le_l, shr-shr, shr_below}
+use Rattle.std.proofs.lemmas.List.{get_or-set_same, get_or-set_other, get_or_past, get_or-replicate, length-replicate}
 use Rattle.std.proofs.lemmas.Bool.{cases_eq, cases_lt, and_parts}
 use Rattle.std.proofs.lemmas.Bool.Decides.{nat_tests as tells}
-use Rattle.sets.specs.Set.{has, in_set, Lowest, LowestMissing, Meets, Next, NextHut, huts_from}
+use Rattle.sets.specs.Set.{has, in_set, Lowest, LowestMissing, Common, Meets, Next, NextHut, huts_from}
 use Rattle.std.specs.List.{filter, range_with_len}
 use Rattle.sets.specs.Word.{bit, Tells, LowestTold}
 use Rattle.std.proofs.lemmas.Nat.Bits.{bit_at_not, bit_at_or, bit_at_and, bit_at-lt, bit_at-zero, bit_at-pow_same, bit_at-pow_other, bit_at-trailing_zeros, bit_at_above}
@@ -99,27 +99,41 @@ pub in_word : (s : HutSet) (k w : ℕ) → k < 1024 → w ≡ get_or s.words (k 
 unfolding in_set has
 in_word s k w l e = rw e (grind (arith, tells))
 
--- where no word has a bit, no hut is in the set
-pub in_none : (k : ℕ) → in_set (record { words = replicate 16 0 }) k ≡ false
-in_none k =
-    elim (cases_lt k 1024) [
-      | inl less ↦ rw (in_word _ k _ less refl, get_or-replicate {A = ℕ} 16 (k / 64) 0 0 (omega arith)) (grind (arith, tells, bit_at-zero (k % 64)))
-      | inr more ↦ past_all _ k more
+-- zeros have no bit
+pub has_none : (n k : ℕ) → has (replicate n 0) k ≡ false
+unfolding has
+has_none n k =
+    let none = bit_at-zero (k % 64) in
+    elim (cases_lt (k / 64) n) [
+      | inl less ↦ rw (get_or-replicate {A = ℕ} n (k / 64) 0 0 less) (grind (arith, tells, none))
+      | inr past ↦ rw (get_or_past {X = ℕ} (replicate n 0) (k / 64) 0 (rw length-replicate past)) (grind (arith, tells, none))
     ]
 
+-- where there is no bit, no hut is in the set
+pub in_none : (s : HutSet) → ((k : ℕ) → has s.words k ≡ false) → (k : ℕ) → in_set s k ≡ false
+unfolding in_set
+in_none s none k = let e = none k in grind (arith, tells)
+
+-- the bits that word i of two sets have both
+abbrev pub both : HutSet → HutSet → ℕ → ℕ
+both s t i = bit_and (get_or s.words i 0) (get_or t.words i 0)
+
 -- and in both sets exactly if both words have it
-pub in_both : (s t : HutSet) (k w : ℕ) → k < 1024 → w ≡ bit_and (get_or s.words (k / 64) 0) (get_or t.words (k / 64) 0) → (in_set s k && in_set t k) ≡ bit w (k % 64)
+pub in_both : (s t : HutSet) (k w : ℕ) → k < 1024 → w ≡ both s t (k / 64) → (in_set s k && in_set t k) ≡ bit w (k % 64)
 in_both s t k w l e = rw (in_word s k _ l refl, in_word t k _ l refl, e, bit_of_and) refl
+
+-- the huts of both; from 1,024 on no bit counts
+pub in_union : (s t u : HutSet) → ((k : ℕ) → k < 1024 → has u.words k ≡ (has s.words k || has t.words k)) → (k : ℕ) → in_set u k ≡ (in_set s k || in_set t k)
+unfolding in_set
+in_union s t u bits k =
+    elim (cases_lt k 1024) [ inl less ↦ let b = bits k less in grind (arith, tells) | inr more ↦ grind (arith, tells) ]
 
 -- and in one or the other exactly if one of the words has it
 pub in_or :
     (s t u : HutSet) → ((i : ℕ) → 0 ≤ i → i < 16 → get_or u.words i 0 ≡ bit_or (get_or s.words i 0) (get_or t.words i 0)) →
     (k : ℕ) → in_set u k ≡ (in_set s k || in_set t k)
-in_or s t u words k =
-    elim (cases_lt k 1024) [
-      | inl less ↦ rw (in_word u k _ less refl, words (k / 64) (omega arith) (omega arith), in_word s k _ less refl, in_word t k _ less refl, bit_of_or) refl
-      | inr more ↦ rw (past_all u k more, past_all s k more, past_all t k more) refl
-    ]
+unfolding has
+in_or s t u words = in_union s t u (λ k l. rw (words (k / 64) (omega arith) (omega arith), bit_of_or) refl)
 
 -- and is not in it exactly if the word with all bits turned has it
 pub out_of_word : (s : HutSet) (k w : ℕ) → k < 1024 → get_or s.words (k / 64) 0 < 2 ^ 64 → w ≡ 18446744073709551615 - get_or s.words (k / 64) 0 → not (in_set s k) ≡ bit w (k % 64)
@@ -214,6 +228,22 @@ next_hut s f (Some h) (since, l, is, before) = (l, record { within = omega arith
 pub meets-from : (s t : HutSet) (f : ℕ) (r : Option ℕ) → LowestOf (λ k. in_set s k && in_set t k) f r → Meets s t f (is_some r)
 meets-from s t f None none = λ k since. elim (cases_lt k 1024) [ inl less ↦ none k since less | inr more ↦ let p = past_all s k more in grind (arith, tells) ]
 meets-from s t f (Some h) (since, l, is, before) = let z = and_parts (in_set s h) (in_set t h) is in record { hut = h; since = since; one = z.0; other = z.1 }
+
+-- where what two sets have both of a word is not 0 from some place on, a hut from there on is in both
+pub word_common : (s t : HutSet) (f i j : ℕ) → i < 16 → j < 64 → f ≤ 64 * i + j → get_or s.words i 0 < 2 ^ 64 → (both s t i / 2 ^ j ≡ 0 → ⊥) → Common s t f
+word_common s t f i j l lj since fits some =
+    let g : ℕ = 64 * i + j in
+    let word : g / 64 ≡ i = omega arith in
+    let place : g % 64 ≡ j = omega arith in
+    let P = λ (h w : ℕ). w ≡ both s t h in
+    let r : Option ℕ = Some (g + count_trailing_zeros 64 (both s t i / 2 ^ (g % 64))) in
+    let low : LowestTold P g r = lowest_left P g (both s t i) (omega arith) (rw word refl) (omega (arith, and_le_l (get_or s.words i 0) (get_or t.words i 0))) (rw place some) in
+    let c : Common s t g = meets-from s t g r (lowest_of (λ k. in_set s k && in_set t k) P g r low (in_both s t)) in
+    record { hut = c.hut; since = omega (arith, c.since); one = c.one; other = c.other }
+
+-- and so where it is not 0 at all
+pub whole_common : (s t : HutSet) (f i : ℕ) → i < 16 → f ≤ 64 * i → get_or s.words i 0 < 2 ^ 64 → (both s t i ≡ 0 → ⊥) → Common s t f
+whole_common s t f i l since fits some = word_common s t f i 0 l (omega arith) (omega arith) fits (λ e. some (omega arith))
 
 -- the lowest hut that is not in the set, or 1,024
 pub lowest_lack : (s : HutSet) (r : Option ℕ) → LowestOf (λ k. not (in_set s k)) 0 r → Lowest 1024 s (unwrap_or r 1024)
