@@ -1,12 +1,13 @@
 -- Rows of neighbours: what a line makes of them, and the lines that they tell. Assumes nothing.
-use Rattle.std.proofs.Common.{◌≡◌, ℕ, ◌-◌, ◌%◌, ◌^◌, ◌<◌, ◌≤◌, true, false, ◌&&◌, ◌||◌, eqb, ltb, List, [], ◌∷◌, length, get_or, take, drop, set, replicate, vec_items, refl, inl, inr, arith}
+use Rattle.std.proofs.Common.{◌≡◌, ℕ, ◌-◌, ◌%◌, ◌^◌, ◌<◌, ◌≤◌, true, false, ◌&&◌, ◌||◌, eqb, ltb, List, [], ◌∷◌, length, get_or, take, drop, set, replicate, vec_items, None, refl, inl, inr, arith}
 use Rattle.std.proofs.lemmas.List.{get_or-set_same, get_or-set_other, get_or-replicate, get_or_past, get_or_read, length-replicate, length-set, take_rest}
 use Rattle.std.proofs.Math.Nat.{zero-div}
-use Rattle.std.proofs.lemmas.Bool.{cases_eq, cases_lt}
+use Rattle.std.proofs.lemmas.Bool.{cases_eq, cases_lt, cases_Bool}
 use Rattle.std.proofs.lemmas.Bool.Decides.{nat_tests}
 use Rattle.sets.specs.declared.HutSet.{HutSet}
 use Rattle.sets.specs.Set.{has, in_set}
-use Rattle.lines.specs.Line.{line}
+use Rattle.lines.specs.Line.{Lines, line, wrong}
+use Rattle.lines.proofs.Lines.{line-between}
 use Rattle.sets.specs.Set.{row_of}
 use Rattle.rows.specs.declared.table.Rows.{Rows}
 use Rattle.rows.specs.Rows.{huts}
@@ -83,3 +84,24 @@ none_in s rows n none e i k =
 -- a read of a row
 pub row_read : (rows : Rows) (i : ℕ) (r : HutSet) → i < huts rows → r ≡ get_or (vec_items rows.of) i r → r ≡ row_of (vec_items rows.of) i
 row_read rows i r l e = get_or_read (vec_items rows.of) i r l e empty
+
+-- the lines that a list of rows tells: hut i is there, and hut k stands in its row
+abbrev pub tells : List HutSet → Lines
+tells rows i k = ltb i (length rows) && in_set (row_of rows i) k
+
+-- rows that have each hut's neighbours tell the lines
+pub told_line :
+    (rows : List HutSet) (n : ℕ) (xs : List ℕ) → length rows ≡ n → wrong n xs ≡ None → ((i k : ℕ) → i < n → in_set (row_of rows i) k ≡ line xs i k) → tells rows ≡ line xs
+told_line rows n xs size right same =
+    let each : (i k : ℕ) → tells rows i k ≡ line xs i k =
+    λ i k.
+    elim (cases_lt i n) [
+      | inl li ↦ let s = same i k li in grind (arith, nat_tests)
+      | inr past ↦
+          elim (cases_Bool (line xs i k)) [
+            | inl t ↦ let b = line-between n 0 0 xs right i k t in let l = b.0 in absurd (omega arith)
+            | inr f ↦ grind (arith, nat_tests)
+          ]
+    ]
+    in
+    λ d i k. each i k d
