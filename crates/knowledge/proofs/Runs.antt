@@ -1,12 +1,12 @@
 -- The calls of a list made one after the other: what has been reached after the first of them. Assumes nothing.
-use Rattle.std.proofs.Common.{◌≡◌, ℕ, ◌+◌, ◌*◌, ◌<◌, T, List, [], ◌∷◌, length, get_or, take, drop, Option, Some, refl, arith, below_more}
-use Rattle.std.proofs.lemmas.List.{length-drop, drop-drop}
+use Rattle.std.proofs.Common.{◌≡◌, ℕ, ◌+◌, ◌*◌, ◌%◌, ◌<◌, ◌≤◌, T, List, [], ◌∷◌, length, get_or, take, drop, Option, None, Some, refl, arith, below_more}
+use Rattle.std.proofs.lemmas.List.{length-drop, take_all, drop-drop}
 use Rattle.std.proofs.lemmas.Bool.Decides.{nat_tests}
 use Rattle.calls.specs.Call.{Call, call, AllKnow}
 use Rattle.calls.specs.Number.{onto, calls}
 use Rattle.calls.proofs.Numbers.{calls_more}
 use Rattle.knowledge.specs.Row.{Stands, Lack, Behind}
-use Rattle.knowledge.specs.Outcome.{below}
+use Rattle.knowledge.specs.Outcome.{below, CompleteAfter, LowestLack}
 use Rattle.sets.specs.declared.HutSet.{HutSet}
 use Rattle.knowledge.proofs.Rows.{behind_onward}
 
@@ -55,4 +55,28 @@ reached_more xs left rows rows' made i k r at two same stands behind =
       not_yet =
           rw same
           (below_more (λ j. AllKnow (length rows) (calls (take (2 * j) xs)) → ⊥) made at.not_yet (not_all rows (calls (take (2 * made) xs)) i k at.stands at.behind));
+    }
+
+-- where no hut lacks any, the calls that are made are complete, and no fewer
+pub complete_from_reached : (xs left : List ℕ) (rows : List HutSet) (made : ℕ) → Reached xs left rows made None → CompleteAfter (length rows) xs made
+complete_from_reached xs left rows made at =
+    record {
+      there = omega (arith, at.size);
+      all = λ i k li lk. rw (at.stands.bits i k li) at (at.behind i (omega arith) li k lk);
+      first = at.not_yet;
+    }
+
+-- where no call is left, the lowest hut that lacks any lacks it after all calls
+pub lack_from_reached :
+    (xs left : List ℕ) (rows : List HutSet) (made i k : ℕ) → Reached xs left rows made (Some (i, k)) → length left ≤ 1 → length xs % 2 ≡ 0 → LowestLack (length rows) xs i k
+lack_from_reached xs left rows made i k at short even =
+    let all : take (2 * made) xs ≡ xs = take_all (2 * made) xs (omega (arith, at.size)) in
+    let stands : Stands (length rows) rows (calls xs) = rw all at at.stands in
+    let lack : Lack rows 0 i k = at.behind in
+    record {
+      hut = lack.hut;
+      other = lack.other;
+      lacks = rw (stands.bits i k lack.hut) at (lack.lowest.lacks lack.other);
+      huts_before = λ j m lj lm. rw (stands.bits j m (omega (arith, lack.hut))) at (lack.before j (omega arith) lj m lm);
+      others_before = λ m lm. rw (stands.bits i m lack.hut) at (lack.lowest.before m lm);
     }
