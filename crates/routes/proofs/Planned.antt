@@ -1,5 +1,5 @@
 -- What the parts of the search give together: the prescribed plan. Assumes nothing.
-use Rattle.std.proofs.Common.{◌≡◌, ℕ, ◌-◌, ◌<◌, ◌≤◌, Bool, true, false, not, eqb, List, map, Some, None, vec_items, Option, sym, refl, ap, ◌∙◌, subst, inl, inr, arith}
+use Rattle.std.proofs.Common.{◌≡◌, ℕ, ◌-◌, ◌<◌, ◌≤◌, Bool, true, false, ◌&&◌, not, eqb, ltb, List, map, length, Some, None, vec_items, Option, sym, refl, ap, ◌∙◌, subst, inl, inr, arith}
 use Rattle.std.specs.List.{All}
 use Rattle.std.proofs.lemmas.Bool.{cases_eq, cases_Bool}
 use Rattle.std.proofs.lemmas.Bool.Decides.{nat_tests}
@@ -20,10 +20,10 @@ use Rattle.lines.proofs.Main.{plan-does}
 use Rattle.lines.proofs.Squares.{smallest_same, smallest_is, smallest_only}
 use Rattle.rows.specs.declared.table.Rows.{Rows}
 use Rattle.rows.specs.Rows.{huts, told}
+use Rattle.rows.proofs.Told.{tells}
 use Rattle.routes.specs.declared.Tied.{Tied}
 use Rattle.routes.specs.declared.reaching.Reach.{Reach}
 use Rattle.routes.specs.Answer.{alone, Planned}
-use Rattle.routes.specs.Seen.{seen}
 use Rattle.routes.specs.Near.{Partners}
 use Rattle.routes.specs.Pairs.{round_written, straight_written}
 use Rattle.routes.specs.Reach.{Reached}
@@ -53,24 +53,29 @@ module _ (rows : Rows) (o : Option Square) (x : Reach) (ts : List Tied) (at : Re
   straight_plan e =
       ap (λ (xs : List Tied). straight_written xs) partners_mapped ∙ straight_written_lem (partner (huts rows) (told rows) (middle o)) (vec_items x.row) ∙ rw (at.listed, e)
 
+-- a square as it is looked up in a list of rows, with a the lowest of the four and b below d; the line d-a is looked up from a
+abbrev pub seen_in : List HutSet → ℕ → ℕ → ℕ → ℕ → Bool
+seen_in rows a b c d =
+    (ltb a b && (ltb a c && ltb b d)) && (in_set (row_of rows a) b && (in_set (row_of rows b) c && (in_set (row_of rows c) d && in_set (row_of rows a) d)))
+
 -- what is seen in the rows are the squares of the lines that they tell
-seen-square : (rows : Rows) → ((i k : ℕ) → told rows i k ≡ told rows k i) → ((i : ℕ) → told rows i i ≡ false) → (a b c d : ℕ) → a < huts rows → b < huts rows → c < huts rows → d < huts rows → seen rows a b c d ≡ square (told rows) a b c d
-unfolding told
+seen-square : (rows : List HutSet) → ((i k : ℕ) → tells rows i k ≡ tells rows k i) → ((i : ℕ) → tells rows i i ≡ false) → (a b c d : ℕ) → a < length rows → b < length rows → c < length rows → d < length rows → seen_in rows a b c d ≡ square (tells rows) a b c d
 seen-square rows both apart a b c d la lb lc ld =
     let da = both d a in
     let bb = apart b in
     let cc' = apart c in
     elim (cases_eq b c) [
-      | inl same ↦ let s : in_set (row_of (vec_items rows.of) b) c ≡ in_set (row_of (vec_items rows.of) b) b = rw same in grind (arith, nat_tests)
+      | inl same ↦ let s : in_set (row_of rows b) c ≡ in_set (row_of rows b) b = rw same in grind (arith, nat_tests)
       | inr differ ↦
           elim (cases_eq c d) [
-            | inl same ↦ let s : in_set (row_of (vec_items rows.of) c) d ≡ in_set (row_of (vec_items rows.of) c) c = rw same in grind (arith, nat_tests)
+            | inl same ↦ let s : in_set (row_of rows c) d ≡ in_set (row_of rows c) c = rw same in grind (arith, nat_tests)
             | inr other ↦ grind (arith, nat_tests)
           ]
     ]
 
-pub smallest-told : (rows : Rows) (o : Option Square) → ((i k : ℕ) → told rows i k ≡ told rows k i) → ((i : ℕ) → told rows i i ≡ false) → SmallestBy (huts rows) (seen rows) o → Smallest (huts rows) (told rows) o
-smallest-told rows o both apart h = smallest_same (huts rows) (seen rows) (square (told rows)) (seen-square rows both apart) o h
+-- so the smallest that is seen, or none, is that of those lines
+pub smallest-told : (rows : List HutSet) (o : Option Square) → ((i k : ℕ) → tells rows i k ≡ tells rows k i) → ((i : ℕ) → tells rows i i ≡ false) → SmallestBy (length rows) (seen_in rows) o → Smallest (length rows) (tells rows) o
+smallest-told rows o both apart h = smallest_same (length rows) (seen_in rows) (square (tells rows)) (seen-square rows both apart) o h
 
 -- all huts are reached from hut 0 where none is missing
 pub all-joined : (rows : Rows) (x : Reach) (r : ℕ) → Reached rows (eqb 0) (huts rows - 1) x → Lowest (huts rows) x.huts r → huts rows ≤ r → (i : ℕ) → i < huts rows → joined (huts rows) (told rows) i ≡ true
