@@ -1,9 +1,9 @@
 -- Calls of `next` on a chain of which the items are known, and numbers beside its items. Assumes nothing.
-use Rattle.std.proofs.Common.{◌≡◌, ℕ, suc, ◌+◌, ◌-◌, ◌<◌, ◌^◌, true, List, [], ◌∷◌, length, drop, Some, None, Option, MatchOption, option_map, slice_get, Bor, Bool, refl, ap, ◌∙◌, ⊎_elim, arith}
+use Rattle.std.proofs.Common.{◌≡◌, ℕ, ◌+◌, ◌-◌, ◌<◌, ◌^◌, true, List, [], ◌∷◌, length, drop, Some, None, Option, MatchOption, option_map, slice_get, Bor, Bool, refl, ap, ◌∙◌, ⊎_elim, arith}
 use denote.Param.Members.{Mut}
 use Rattle.std.proofs.lemmas.Iterator.{YieldsList}
 use Rattle.std.specs.Iterator.{AlwaysYields}
-use Rattle.std.specs.Iterator.Adapters.{filter_steps, zip_first, zip_second, zip_steps}
+use Rattle.std.specs.Iterator.Adapters.{zip_first, zip_second, zip_steps}
 use Rattle.std.specs.List.{enumerate_from}
 use Rattle.std.specs.Slice.Iter.{split_steps, split_done}
 use Rattle.std.specs.declared.iter.Zip.{Zip}
@@ -14,20 +14,12 @@ use Rattle.std.specs.declared.slice.Split.{Split}
 abbrev pub IsFused : {S A : Type 0} → (S → Option A → S → Type 0) → Type 0
 IsFused {S} {A} steps = (s t u : S) (x : A) → steps s None t → steps t (Some x) u → ⊥
 
--- `split`, and `filter` after it
+-- `split`
 split_ended : {A F : Type 0} (g : Mut F (Bor A × Unit {0}) Bool) → (s t : Split A F) → split_steps g s None t → split_done t ≡ true
 split_ended g s t gave = ap split_done gave.1 ∙ gave.0
 
 pub split_fused : {A F : Type 0} (g : Mut F (Bor A × Unit {0}) Bool) → IsFused (split_steps g)
 split_fused g s t u x none some = let e = split_ended g s t none in let d = some.0 in absurd (cc)
-
-pub filter_fused : {A F G : Type 0} (g : Mut F (Bor A × Unit {0}) Bool) (h : Mut G (Bor (Bor (List A)) × Unit {0}) Bool) → IsFused (filter_steps (split_steps g) h)
-filter_fused g h s t u x none ([], f, gave, calls, last) = let e = split_ended g _ _ none.2.2 in let same = gave.1 in let d = gave.2.0 in absurd (cc)
-filter_fused g h s t u x none (z ∷ zs, f, gave, calls, last) = let e = split_ended g _ _ none.2.2 in let d = gave.1.1.0 in absurd (cc)
-
-slice_get-drop : {B : Type 0} (xs : List B) (i : ℕ) → slice_get (drop 1 xs) i ≡ slice_get xs (suc i)
-slice_get-drop [] i = refl
-slice_get-drop (x ∷ xs) i = refl
 
 module _ {S A B : Type 0} {steps : S → Option A → S → Type 0} {v : A → B} (fused : IsFused steps) where
   -- a call gives the first item that is left, if there is one, and leaves the others
@@ -36,18 +28,6 @@ module _ {S A B : Type 0} {steps : S → Option A → S → Type 0} {v : A → B
   next_item s [] e (Some x) t gave = absurd (e.runs x t gave)
   next_item s (y ∷ ys) e None t gave = absurd (e.runs.0 t gave)
   next_item s (y ∷ ys) e (Some x) t gave = let h = e.runs.1 x t gave in (ap Some h.0, record { runs = h.1 })
-
-  -- three calls
-  pub next_three :
-      {s t u w : S} {all : List B} → YieldsList steps v s all → (o p r : Option A) → steps s o t → steps t p u → steps u r w → (option_map v o ≡ slice_get all 0) × (option_map v p ≡ slice_get all 1) × (option_map v r ≡ slice_get all 2)
-  next_three {s = s} {t = t} {u = u} {w = w} {all = all} e o p r a b c =
-      let first = next_item s all e o t a in
-      let second = next_item t (drop 1 all) first.1 p u b in
-      let third = next_item u (drop 1 (drop 1 all)) second.1 r w c in (
-        first.0,
-        second.0 ∙ slice_get-drop all 0,
-        third.0 ∙ slice_get-drop (drop 1 all) 0 ∙ slice_get-drop all 1,
-      )
 
 -- numbers from one on
 abbrev pub from_steps : RangeFrom ℕ → Option ℕ → RangeFrom ℕ → Type 0

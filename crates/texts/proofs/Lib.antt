@@ -2,3 +2,4 @@ pub mod Chains
 pub mod Digits
 pub mod Examples
 pub mod Pairs
+pub mod Words

@@ -1,7 +1,7 @@
 // Lists of lines or of calls, read from text: the number of huts on the first line, then a pair of huts a line.
 #![tactic(auto)]
 
-ghost use Rattle.std.specs.Prelude.{◌≡◌, Some, option_map, slice_get};
+ghost use Rattle.std.specs.Prelude.{◌≡◌, [], ◌∷◌, Some, MatchOption, option_map, slice_get};
 ghost use Rattle.texts.specs.Lines.{blank, words_of};
 ghost use Rattle.texts.specs.Number.{number_in};
 ghost use Rattle.texts.specs.Reading.{sole_number, further_of, Reads, shown_of};
@@ -73,23 +73,42 @@ fn is_blank(byte: u8) -> bool
     matches!(byte, b' ' | b'\t' | b'\r')
 }
 
+// The first word of a line, and what follows it. The bytes are gone over once, blanks too: a piece between two blanks is no word, and is never made.
+fn first_word(line: &[u8]) -> Option<(&[u8], &[u8])>
+    ensures { MatchOption result (words_of line.now ≡ []) (λ p. words_of line.now ≡ p.0.now ∷ words_of p.1.now) }
+{
+    let start = line.iter().position(|b| !is_blank(*b))?;
+    let word = &line[start..];
+    let end = word.iter().position(|b| is_blank(*b)).unwrap_or(word.len());
+    Some(word.split_at(end))
+}
+
 // The first three words of a line, as far as it has them; no line that can be read has a third.
 fn first_words(line: &[u8]) -> (Option<&[u8]>, Option<&[u8]>, Option<&[u8]>)
     ensures first { option_map (λ w. w.now) result.0 ≡ slice_get (words_of line.now) 0 }
     ensures second { option_map (λ w. w.now) result.1 ≡ slice_get (words_of line.now) 1 }
     ensures third { option_map (λ w. w.now) result.2 ≡ slice_get (words_of line.now) 2 }
 {
-    let mut words = line.split(|b| is_blank(*b)).filter(|w| !w.is_empty());
-    (words.next(), words.next(), words.next())
+    let Some((first, rest)) = first_word(line) else {
+        return (None, None, None);
+    };
+    let Some((second, rest)) = first_word(rest) else {
+        return (Some(first), None, None);
+    };
+    let Some((third, _)) = first_word(rest) else {
+        return (Some(first), Some(second), None);
+    };
+    (Some(first), Some(second), Some(third))
 }
 
 // The number that is the only word of a line.
 fn sole_number(line: &[u8]) -> Option<u16>
     ensures { result ≡ sole_number (words_of line.now) }
 {
-    match first_words(line) {
-        (Some(word), None, _) => number(word),
-        _ => None,
+    let (word, rest) = first_word(line)?;
+    match first_word(rest) {
+        None => number(word),
+        Some(_) => None,
     }
 }
 
