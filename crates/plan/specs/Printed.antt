@@ -1,5 +1,5 @@
 -- What is printed for a number of huts, and what is said to a command line. Assumes nothing.
-use Rattle.std.specs.Prelude.{◌≡◌, ℕ, List, length, Some, None, Option, Ok, Err, codes, string_bytes, Result, String}
+use Rattle.std.specs.Prelude.{◌≡◌, ◌⊎◌, ℕ, List, length, Some, None, Option, Ok, Err, codes, string_bytes, Result, String}
 use Rattle.std.specs.Borrow.{Bor}
 use Rattle.std.specs.Option.{unwrap_or}
 use Rattle.std.specs.Result.{IsErrAnd}
@@ -40,6 +40,19 @@ abbrev pub AnsweredFirst : Option (Bor (List ℕ)) → Result (String Global) Fa
 AnsweredFirst (Some word) r = Answered word.now r
 AnsweredFirst None r = IsErrAnd r (λ f. failure_shown f ≡ Some (codes "the number of huts is missing"))
 
--- A program of the name plan, which takes a number of huts alone, replies so to the words of its command line; and what it says to those that are no options is right.
+-- a failure, with '--help' in the place of '--version' where something is wrong with that word
+abbrev pub IsRetold : Failure → Failure → Type 0
+IsRetold (Bad w b) g = ((w.now ≡ codes "--version") × ((v : Bor (List ℕ)) × (g ≡ Bad v b) × (v.now ≡ codes "--help"))) ⊎ ((w.now ≡ codes "--version" → ⊥) × (g ≡ Bad w b))
+IsRetold f g = g ≡ f
+
+-- the text that was replied, or the failure as it is told again
+abbrev pub Told : Result (String Global) Failure → Result (String Global) Failure → Type 0
+Told (Ok s) r = r ≡ Ok s
+Told (Err f) r = IsErrAnd r (IsRetold f)
+
+-- A program of the name plan, which takes a number of huts alone and says so in its usage, replies so to the words of its command line; and what it says to those that are no options is right.
+-- Where it has no memory for its version, it names '--help', as where it has none for its help.
 abbrev pub Replies : List (List ℕ) → Result (String Global) Failure → Type 0
-Replies words r = (p : Program) × (p.name.now ≡ codes "plan") × (p.takes ≡ Number) × tool.Replies p (λ w said. AnsweredFirst w.first said) words r
+Replies words r =
+    (p : Program) × (replied : Result (String Global) Failure) × (p.name.now ≡ codes "plan") × (p.usage.now ≡ codes "usage: plan HUTS") × (p.takes ≡ Number) ×
+    tool.Replies p (λ w said. AnsweredFirst w.first said) words replied × Told replied r

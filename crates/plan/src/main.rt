@@ -2,7 +2,7 @@
 #![tactic(auto)]
 
 ghost use Rattle.std.specs.Prelude.{map, string_bytes};
-ghost use Rattle.plan.specs.Printed.{Prints, Answered, AnsweredFirst, Replies};
+ghost use Rattle.plan.specs.Printed.{Prints, Answered, AnsweredFirst, IsRetold, Replies};
 
 use faults::Fault;
 use std::alloc::Global;
@@ -54,11 +54,22 @@ fn said<'a>(heap: Global, words: Words<'a>) -> Result<String, Failure<'a>>
     planned(heap, word)
 }
 
+// A failure as this program has always told it: where there is no memory for the version either, '--help' is named.
+fn retold(failure: Failure<'_>) -> Failure<'_>
+    ensures retold { IsRetold failure.entry result }
+{
+    match failure {
+        Failure::Bad("--version", bad) => Failure::Bad("--help", bad),
+        other => other,
+    }
+}
+
 // What is printed on standard output.
 fn answer<'a>(heap: Global, words: &'a [String]) -> Result<String, Failure<'a>>
     ensures replies { Replies (map string_bytes words.now) result }
 {
     PLAN.reply(heap, words, |words| said(heap, words))
+        .map_err(retold)
 }
 
 fn main(rt: HostRuntime) -> ExitCode {
