@@ -4,6 +4,8 @@ use Rattle.std.specs.List.{range_with_len}
 use Rattle.std.proofs.lemmas.List.{get_or-map, get_or-set_same, get_or-set_other, length-map, length-set}
 use Rattle.std.proofs.lemmas.List.FromFn.{get_or-map-range_with_len, length-map-range_with_len}
 use Rattle.std.proofs.lemmas.Bool.{cases_eq, cases_lt}
+use Rattle.std.proofs.lemmas.Iterator.{YieldsList, items_from_drains}
+use Rattle.std.specs.Iterator.{Drains}
 use Rattle.std.proofs.lemmas.Bool.Decides.{nat_tests}
 use Rattle.calls.specs.Call.{Call, call, knows, with_either}
 use Rattle.calls.proofs.Known.{onward}
@@ -21,6 +23,10 @@ alone i k = eqb i k && ltb k 1024
 
 pub alone_in : (s : HutSet) (i : ℕ) → ((k : ℕ) → in_set s k ≡ alone i k) → in_set s ≡ alone i
 alone_in s i same = λ d k. same k d
+
+-- the items of a chain that ran to its end are those that it yields
+pub drained : {S A B : Type 0} {steps : S → Option A → S → Type 0} {v : A → B} {s : S} {all : List B} (xs : List A) → Drains steps s xs → YieldsList steps v s all → map v xs ≡ all
+drained xs d e = items_from_drains xs (d.1.0, d.1.1, λ _. (d.0, d.1.2)) e
 
 -- a row for each of n huts, with the hut alone
 pub stands_alone : (n : ℕ) (rows : List HutSet) → n ≤ 1024 → map in_set rows ≡ map alone (range_with_len 0 n) → Stands n rows []

@@ -40,7 +40,9 @@ fn start(heap: Global, n: usize) -> Result<Vec<HutSet>, Fault>
     requires { n ≤ 1024 }
     ensures { MatchResult result (λ rows. Stands n rows.items []) (λ f. f ≡ Memory) }
 {
-    Ok((0..n).map(HutSet::only).collect(heap)?)
+    let mut rows = Vec::with_capacity(heap, n)?; // just as many as there are huts: `collect` takes room for four at least
+    rows.extend((0..n).map(HutSet::only))?;
+    Ok(rows)
 }
 
 // Hut a calls hut e: both sets become their union.
