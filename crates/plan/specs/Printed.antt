@@ -1,5 +1,5 @@
 -- What is printed for a number of huts, and what is said to a command line. Assumes nothing.
-use Rattle.std.specs.Prelude.{◌≡◌, ◌⊎◌, ℕ, List, length, Some, None, Option, Ok, Err, codes, string_bytes, Result, String}
+use Rattle.std.specs.Prelude.{◌≡◌, ℕ, List, length, Some, None, Option, Ok, Err, codes, string_bytes, Result, String}
 use Rattle.std.specs.Borrow.{Bor}
 use Rattle.std.specs.Option.{unwrap_or}
 use Rattle.std.specs.Result.{IsErrAnd}
@@ -40,9 +40,9 @@ abbrev pub AnsweredFirst : Option (Bor (List ℕ)) → Result (String Global) Fa
 AnsweredFirst (Some word) r = Answered word.now r
 AnsweredFirst None r = IsErrAnd r (λ f. failure_shown f ≡ Some (codes "the number of huts is missing"))
 
--- a failure, with '--help' in the place of '--version' where something is wrong with that word
+-- what is wrong with a word is told of the same word, but of '--help' where it was '--version'; any other failure is told as it is
 abbrev pub IsRetold : Failure → Failure → Type 0
-IsRetold (Bad w b) g = ((w.now ≡ codes "--version") × ((v : Bor (List ℕ)) × (g ≡ Bad v b) × (v.now ≡ codes "--help"))) ⊎ ((w.now ≡ codes "--version" → ⊥) × (g ≡ Bad w b))
+IsRetold (Bad w b) g = (v : Bor (List ℕ)) × (g ≡ Bad v b) × (w.now ≡ codes "--version" → v.now ≡ codes "--help") × ((w.now ≡ codes "--version" → ⊥) → v ≡ w)
 IsRetold f g = g ≡ f
 
 -- the text that was replied, or the failure as it is told again

@@ -1,5 +1,5 @@
 -- What the parts of the search give together: the prescribed plan. Assumes nothing.
-use Rattle.std.proofs.Common.{◌≡◌, ℕ, ◌-◌, ◌<◌, ◌≤◌, Bool, true, false, ◌&&◌, not, eqb, ltb, List, map, length, Some, None, vec_items, Option, sym, refl, ap, ◌∙◌, subst, inl, inr, arith}
+use Rattle.std.proofs.Common.{◌≡◌, ℕ, ◌-◌, ◌<◌, ◌≤◌, Bool, true, false, not, eqb, List, map, length, Some, None, vec_items, Option, sym, refl, ap, ◌∙◌, subst, inl, inr, arith}
 use Rattle.std.specs.List.{All}
 use Rattle.std.proofs.lemmas.Bool.{cases_eq, cases_Bool}
 use Rattle.std.proofs.lemmas.Bool.Decides.{nat_tests}
@@ -19,11 +19,11 @@ use Rattle.lines.proofs.Lowest.{lowest_at}
 use Rattle.lines.proofs.Main.{plan-does}
 use Rattle.lines.proofs.Squares.{smallest_same, smallest_is, smallest_only}
 use Rattle.rows.specs.declared.table.Rows.{Rows}
-use Rattle.rows.specs.Rows.{huts, told}
-use Rattle.rows.proofs.Told.{tells}
+use Rattle.rows.specs.Rows.{huts, tells, told}
 use Rattle.routes.specs.declared.Tied.{Tied}
 use Rattle.routes.specs.declared.reaching.Reach.{Reach}
 use Rattle.routes.specs.Answer.{alone, Planned}
+use Rattle.routes.specs.Seen.{seen_in}
 use Rattle.routes.specs.Near.{Partners}
 use Rattle.routes.specs.Pairs.{round_written, straight_written}
 use Rattle.routes.specs.Reach.{Reached}
@@ -52,11 +52,6 @@ module _ (rows : Rows) (o : Option Square) (x : Reach) (ts : List Tied) (at : Re
   pub straight_plan : o ≡ None → straight_written ts ≡ numbers (plan_for (huts rows) (told rows) None)
   straight_plan e =
       ap (λ (xs : List Tied). straight_written xs) partners_mapped ∙ straight_written_lem (partner (huts rows) (told rows) (middle o)) (vec_items x.row) ∙ rw (at.listed, e)
-
--- a square as it is looked up in a list of rows, with a the lowest of the four and b below d; the line d-a is looked up from a
-abbrev pub seen_in : List HutSet → ℕ → ℕ → ℕ → ℕ → Bool
-seen_in rows a b c d =
-    (ltb a b && (ltb a c && ltb b d)) && (in_set (row_of rows a) b && (in_set (row_of rows b) c && (in_set (row_of rows c) d && in_set (row_of rows a) d)))
 
 -- what is seen in the rows are the squares of the lines that they tell
 seen-square : (rows : List HutSet) → ((i k : ℕ) → tells rows i k ≡ tells rows k i) → ((i : ℕ) → tells rows i i ≡ false) → (a b c d : ℕ) → a < length rows → b < length rows → c < length rows → d < length rows → seen_in rows a b c d ≡ square (tells rows) a b c d

@@ -6,11 +6,11 @@ use Rattle.std.proofs.lemmas.Bool.{cases_eq, cases_lt, cases_Bool}
 use Rattle.std.proofs.lemmas.Bool.Decides.{nat_tests}
 use Rattle.sets.specs.declared.HutSet.{HutSet}
 use Rattle.sets.specs.Set.{has, in_set}
-use Rattle.lines.specs.Line.{Lines, line, wrong}
+use Rattle.lines.specs.Line.{line, wrong}
 use Rattle.lines.proofs.Lines.{line-between}
 use Rattle.sets.specs.Set.{row_of}
 use Rattle.rows.specs.declared.table.Rows.{Rows}
-use Rattle.rows.specs.Rows.{huts}
+use Rattle.rows.specs.Rows.{huts, tells}
 
 abbrev pub empty : HutSet
 empty = record { words = [] }
@@ -84,10 +84,6 @@ none_in s rows n none e i k =
 -- a read of a row
 pub row_read : (rows : Rows) (i : ℕ) (r : HutSet) → i < huts rows → r ≡ get_or (vec_items rows.of) i r → r ≡ row_of (vec_items rows.of) i
 row_read rows i r l e = get_or_read (vec_items rows.of) i r l e empty
-
--- the lines that a list of rows tells: hut i is there, and hut k stands in its row
-abbrev pub tells : List HutSet → Lines
-tells rows i k = ltb i (length rows) && in_set (row_of rows i) k
 
 -- rows that have each hut's neighbours tell the lines
 pub told_line :

@@ -1,10 +1,12 @@
 -- Lines as rows of sets, one for each hut: its neighbours. Assumes nothing.
 --     huts rows          how many huts there are
---     told rows          the lines that the rows tell: hut i is there, and hut k stands in its row
+--     tells sets         the lines that a list of sets tells: hut i is there, and hut k stands in its set
+--     told rows          those that the rows tell
 --     early n xs         the fault that a list of lines has in itself: in the number of huts, in its length, or in its first wrong line
 --     Rowed n xs r       the answer r has the rows of the lines xs among n huts, or their fault
 use Rattle.std.specs.Prelude.{◌≡◌, ℕ, ◌%◌, cond, ◌&&◌, List, length, Some, None, Ok, Err, vec_items, Option, Result, ◌==◌, nat_lt}
 use Rattle.sets.specs.Set.{in_set}
+use Rattle.sets.specs.declared.HutSet.{HutSet}
 use Rattle.std.specs.Option.{unwrap_or}
 use Rattle.faults.specs.declared.Fault.{Fault}
 use Rattle.faults.specs.declared.Fault.TheVariants.{Malformed, NoSuchHut, Memory}
@@ -16,8 +18,11 @@ use Rattle.sets.specs.Set.{row_of}
 abbrev pub huts : Rows → ℕ
 huts rows = length (vec_items rows.of)
 
+abbrev pub tells : List HutSet → Lines
+tells sets i k = nat_lt i (length sets) && in_set (row_of sets i) k
+
 unfoldable pub told : Rows → Lines
-told rows i k = nat_lt i (huts rows) && in_set (row_of (vec_items rows.of) i) k
+told rows = tells (vec_items rows.of)
 
 -- no huts or more than 1,024; else a number that is left alone; else the first line that is wrong
 abbrev pub early : ℕ → List ℕ → Option Fault

@@ -1,8 +1,11 @@
 -- The first word of a line, and what follows it. Assumes nothing.
-use Rattle.std.proofs.Common.{◌≡◌, ℕ, suc, ◌+◌, ◌<◌, ◌≤◌, Bool, true, cond, not, List, [], ◌∷◌, length, take, drop, Some, None, Option, ltb, refl, inl, inr, arith}
-use Rattle.std.proofs.lemmas.Bool.{cases_Bool, cases_lt}
+use Rattle.std.proofs.Common.{◌≡◌, ℕ, suc, ◌+◌, ◌<◌, ◌≤◌, Bool, true, not, List, [], ◌∷◌, length, take, drop, Some, None, refl, sym, inl, inr, arith}
+use Rattle.std.proofs.lemmas.Bool.{cases_Bool}
+use Rattle.std.proofs.lemmas.Grind.{common_steps}
+use Rattle.std.proofs.lemmas.List.Quantifiers.{position-Some}
+use Rattle.std.proofs.lemmas.List.Sums.{prefix_len-le-length}
 use Rattle.std.proofs.lemmas.Bool.Decides.{nat_tests}
-use Rattle.std.specs.List.{slice_split, position_or_len, filter}
+use Rattle.std.specs.List.{slice_split, position_or_len, position, filter}
 use Rattle.std.specs.Option.{unwrap_or}
 use Rattle.texts.specs.Lines.{blank, has_bytes, words_of}
 
@@ -50,19 +53,12 @@ words_first (b ∷ bs) l =
       | inr f ↦ rw (f, z, cut_first blank bs, words_after bs, some, f) refl
     ]
 
-position_or_len-le : (test : ℕ → Bool) (bs : List ℕ) → position_or_len test bs ≤ length bs
-position_or_len-le test [] = omega arith
-position_or_len-le test (b ∷ bs) = let h = position_or_len-le test bs in elim (cases_Bool (test b)) [ inl t ↦ rw t (omega arith) | inr f ↦ rw f (omega arith) ]
-
 -- what a search for a byte tells
-pub none_found : (test : ℕ → Bool) (bs : List ℕ) (r : Option ℕ) → r ≡ cond (ltb (position_or_len test bs) (length bs)) (Some (position_or_len test bs)) None → r ≡ None → length bs ≤ position_or_len test bs
-none_found test bs r at none = elim (cases_lt (position_or_len test bs) (length bs)) [ inl l ↦ absurd (grind (arith, nat_tests)) | inr l ↦ l ]
+pub none_found : (test : ℕ → Bool) (bs : List ℕ) → None ≡ position test bs → length bs ≤ position_or_len test bs
+none_found test bs none = grind (arith, common_steps)
 
-pub found : (test : ℕ → Bool) (bs : List ℕ) (r : Option ℕ) (i : ℕ) → r ≡ cond (ltb (position_or_len test bs) (length bs)) (Some (position_or_len test bs)) None → r ≡ Some i → (i ≡ position_or_len test bs) × (i < length bs)
-found test bs r i at some =
-    elim (cases_lt (position_or_len test bs) (length bs)) [ inl l ↦ let e : i ≡ position_or_len test bs = grind (arith, nat_tests) in (e, omega arith) | inr l ↦ absurd (grind (arith, nat_tests)) ]
+pub found : (test : ℕ → Bool) (bs : List ℕ) (i : ℕ) → Some i ≡ position test bs → (i ≡ position_or_len test bs) × (i < length bs)
+found test bs i some = let e : position_or_len test bs ≡ i = grind (arith, common_steps) in (sym e, (position-Some test bs i 0 (sym some)).0)
 
-pub found_or_end : (test : ℕ → Bool) (bs : List ℕ) (r : Option ℕ) → r ≡ cond (ltb (position_or_len test bs) (length bs)) (Some (position_or_len test bs)) None → unwrap_or r (length bs) ≡ position_or_len test bs
-found_or_end test bs r at =
-    let within = position_or_len-le test bs in
-    elim (cases_lt (position_or_len test bs) (length bs)) [ inl l ↦ let e : r ≡ Some (position_or_len test bs) = grind (arith, nat_tests) in rw e refl | inr l ↦ let e : r ≡ None = grind (arith, nat_tests) in rw e (omega arith) ]
+pub found_or_end : (test : ℕ → Bool) (bs : List ℕ) → unwrap_or (position test bs) (length bs) ≡ position_or_len test bs
+found_or_end test bs = let within = prefix_len-le-length (λ b. not (test b)) bs in grind (arith, common_steps)
